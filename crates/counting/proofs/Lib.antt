@@ -1,0 +1,19 @@
+-- The proofs that belong to no one function: sums, each count's laws, the tables, and what an answer tells.
+pub mod Answers
+pub mod Binomials
+pub mod Capped
+pub mod Catalans
+pub mod Factorials
+pub mod Laws
+pub mod Multinomials
+pub mod PartitionLaws
+pub mod PartitionTable
+pub mod Ranges
+pub mod Stirlings
+pub mod Stores
+pub mod Tables
+pub mod Totals
+pub mod TriangleIndex
+pub mod Triangles
+pub mod Weighted
+pub mod Windows

@@ -1,0 +1,69 @@
+// The multinomial as a product of binomials, from the last letter to the first.
+ghost use mathlib.Core.Path.{_≡_};
+ghost use lib.Dec.{leb};
+ghost use Prim.Native.Nat.{_≤_, _*_};
+ghost use Rattle.counting.specs.Limits.{places};
+ghost use Rattle.counting.specs.Sums.{total};
+ghost use Rattle.counting.specs.Numbers.{multinomialOf};
+ghost use Rattle.counting.specs.Answers.{fits};
+use crate::Count;
+use crate::PLACES;
+use crate::binomial;
+
+fn wide(b: u8) -> u64
+    ensures { λ r. ⌜ r ≡ b ⌝ }
+{
+    b as u64
+}
+
+// Is the sum of the counts at most 80? It stops at the first count that leads past the limit, so no sum wraps.
+pub fn within_places(counts: &[u8]) -> bool
+    ensures { λ r. ⌜ r ≡ leb (total (now (counts .entry))) places ⌝ }
+{
+    let mut sum: u64 = 0;
+    let mut i = 0;
+    while i < counts.len() {
+        sum += wide(counts[i]);
+        if PLACES < sum {
+            return false;
+        }
+        i += 1;
+    }
+    true
+}
+
+// x * y, or too large.
+fn times(x: u64, y: u64) -> Count
+    ensures { λ r. ⌜ r ≡ fits (x * y) ⌝ }
+{
+    if y == 0 {
+        return Count::Exactly(0);
+    }
+    if x <= 18446744073709551615 / y {
+        return Count::Exactly(x * y);
+    }
+    Count::TooLarge
+}
+
+// The words of the last letters, one letter more at each turn: first the places of that letter, then the word of the others.
+pub fn of_binomials(counts: &[u8]) -> Count
+    requires { ⌜ total (now counts) ≤ places ⌝ }
+    ensures { λ r. ⌜ r ≡ fits (multinomialOf (now (counts .entry))) ⌝ }
+{
+    let mut words: u64 = 1;
+    let mut length: u64 = 0;
+    let mut i = counts.len();
+    while 0 < i {
+        i -= 1;
+        let c = wide(counts[i]);
+        length += c;
+        let Count::Exactly(ways) = binomial(length, c) else {
+            return Count::TooLarge;
+        };
+        let Count::Exactly(more) = times(words, ways) else {
+            return Count::TooLarge;
+        };
+        words = more;
+    }
+    Count::Exactly(words)
+}
