@@ -105,7 +105,7 @@ pub head-le : (c : ℕ) (cs : List ℕ) → choose (c + total cs) c ≤ multinom
 unfolding multinomialOf
 head-le c cs = le-mul-of-pos-right _ (multinomial-positive cs)
 
-total-ones : (n : ℕ) → total (replicate n 1) ≡ n
+pub total-ones : (n : ℕ) → total (replicate n 1) ≡ n
 unfolding total
 total-ones zero = refl
 total-ones (suc n) = omega (arith, total-ones n)

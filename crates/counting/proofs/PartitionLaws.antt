@@ -92,9 +92,14 @@ pub partitions-none : (n k : ℕ) → n < k → partitionsOf n k ≡ 0
 unfolding partitionsOf
 partitions-none n k lt = too-few k 1 n (rw mul-one lt)
 
-pub partitions-zero : (n : ℕ) → partitionsOf (suc n) 0 ≡ 0
+pub partitions-corner : partitionsOf 0 0 ≡ 1
 unfolding partitionsOf partsFrom
-partitions-zero n = refl
+partitions-corner = refl
+
+pub partitions-zero : (n : ℕ) → 0 < n → partitionsOf n 0 ≡ 0
+unfolding partitionsOf partsFrom
+partitions-zero zero pos = absurd (omega arith)
+partitions-zero (suc n) pos = refl
 
 pub partitions-positive : (n k : ℕ) → 0 < k → k ≤ n → 1 ≤ partitionsOf n k
 unfolding partitionsOf

@@ -54,7 +54,7 @@ tail-of-row n k (suc m) e =
 
 next-row : (n : ℕ) → 0 ∷ entries 1 (row partitionsOf n) (before-row (suc n)) ≡ row partitionsOf (suc n)
 unfolding row range
-next-row n = rw (partitions-zero n, tail-of-row n 0 (suc n) (zero-add (suc n)))
+next-row n = rw (partitions-zero (suc n) (omega arith), tail-of-row n 0 (suc n) (zero-add (suc n)))
 
 rows-after : (m n : ℕ) → rowsAfter m (row partitionsOf n) (before-row n) ≡ flatFrom partitionsOf m n
 unfolding rowsAfter flatFrom before-row

@@ -1,0 +1,93 @@
+-- What the test of an anagram says, and that an anagram is a letter with a count left before an anagram of the counts without it.
+-- Assumes nothing.
+use mathlib.Core.Path.{_≡_, refl, sym, _∙_}
+use mathlib.Core.Logic.{_⊎_, inl, inr, ⊎-elim}
+use mathlib.Core.Bool.{true}
+use mathlib.Core.List.{List, [], _∷_}
+use Prim.Native.Nat.{ℕ, zero, suc, _+_, _≤_, _<_}
+use native.Mathlib.Nat.{zero-add, suc-add}
+use native.Mathlib.Numerals.{one-add}
+use native.Mathlib.Decide.{ℕ-discrete}
+use native.Mathlib.Omega.{arith}
+use lib.Dec.{eqb, eqb·zero-suc, eqb·suc-suc}
+use lib.ListN.{length, getD}
+use borrow.Author.Tests.{eqb-true, eq-eqb, ne-eqb}
+use Rattle.counting.specs.Sums.{total}
+use Rattle.counting.specs.Numbers.{oneLess}
+use Rattle.counting.proofs.Laws.{total-less}
+use Rattle.listings.specs.Bytes.{Bytes}
+use Rattle.listings.proofs.Bools.{and-true, and-makes}
+use Rattle.anagrams.specs.Objects.{occurrences, tallies, isAnagram}
+
+pub anagram-cases : (cs : List ℕ) (x : Bytes) → isAnagram cs x ≡ true → (length x ≡ total cs) × (tallies 1 cs x ≡ true)
+unfolding isAnagram
+anagram-cases cs x o = let both = and-true (eqb (length x) (total cs)) (tallies 1 cs x) o in (eqb-true _ _ (both .0), both .1)
+
+-- one more letter before a word
+
+occurrences-same : (b a : ℕ) (x : Bytes) → b ≡ a → occurrences b (a ∷ x) ≡ suc (occurrences b x)
+unfolding occurrences
+occurrences-same b a x e = rw (eq-eqb b a e, one-add)
+
+occurrences-other : (b a : ℕ) (x : Bytes) → (b ≡ a → ⊥) → occurrences b (a ∷ x) ≡ occurrences b x
+unfolding occurrences
+occurrences-other b a x n = rw (ne-eqb b a n, zero-add)
+
+-- a letter below all that are counted
+below : (i : ℕ) (cs : List ℕ) (a : ℕ) (x : Bytes) → a < i → tallies i cs (a ∷ x) ≡ tallies i cs x
+unfolding tallies
+below i [] a x h = refl
+below i (c ∷ cs) a x h = rw (occurrences-other i a x (omega arith), below (suc i) cs a x (omega arith))
+
+-- a letter that has a count left takes one off
+take-off : (i : ℕ) (cs : List ℕ) (j a : ℕ) (x : Bytes) → a ≡ i + j → 0 < getD cs j 0 → tallies i cs (a ∷ x) ≡ tallies i (oneLess cs j) x
+unfolding tallies oneLess
+take-off i [] j a x e h = absurd (omega arith)
+take-off i (zero ∷ cs) zero a x e h = absurd (omega arith)
+take-off i (suc c ∷ cs) zero a x e h = rw (occurrences-same i a x (omega arith), eqb·suc-suc, below (suc i) cs a x (omega arith))
+take-off i (c ∷ cs) (suc j) a x e h = rw (occurrences-other i a x (omega arith), take-off (suc i) cs j a x (omega arith) h)
+
+-- a letter before a word has a count, or it is none of those that are counted
+letter-or-none : (i : ℕ) (cs : List ℕ) (a : ℕ) (x : Bytes) → tallies i cs (a ∷ x) ≡ true → ((j : ℕ) × (a ≡ i + j) × (0 < getD cs j 0)) ⊎ (tallies i cs x ≡ true)
+unfolding tallies
+letter-or-none i [] a x t = inr refl
+letter-or-none i (c ∷ cs) a x t =
+    let both = and-true (eqb (occurrences i (a ∷ x)) c) (tallies (suc i) cs (a ∷ x)) t in
+    step (eqb-true _ _ (both .0)) (ℕ-discrete i a) (letter-or-none (suc i) cs a x (both .1))
+  where
+    step : occurrences i (a ∷ x) ≡ c → Dec (i ≡ a) → ((j : ℕ) × (a ≡ suc i + j) × (0 < getD cs j 0)) ⊎ (tallies (suc i) cs x ≡ true)
+        → ((j : ℕ) × (a ≡ i + j) × (0 < getD (c ∷ cs) j 0)) ⊎ (tallies i (c ∷ cs) x ≡ true)
+    step has (yes e) later = inl (0, omega arith, omega (arith, occurrences-same i a x e))
+    step has (no n) (inl (j, e, h)) = inl (suc j, omega arith, h)
+    step has (no n) (inr k) = inr (and-makes (eq-eqb _ _ (sym (occurrences-other i a x n) ∙ has)) k)
+
+nothing-left : (i : ℕ) (cs : List ℕ) → tallies i cs [] ≡ eqb 0 (total cs)
+unfolding tallies occurrences total
+nothing-left i [] = refl
+nothing-left i (zero ∷ cs) = rw (nothing-left (suc i) cs, zero-add)
+nothing-left i (suc c ∷ cs) = rw (eqb·zero-suc, suc-add, eqb·zero-suc)
+
+-- a word has room for all the letters that are counted in it
+room : (i : ℕ) (cs : List ℕ) (x : Bytes) → tallies i cs x ≡ true → total cs ≤ length x
+room i cs [] t = omega (arith, eqb-true 0 (total cs) (sym (nothing-left i cs) ∙ t))
+room i cs (a ∷ x) t =
+    ⊎-elim (λ (j, e, h). omega (arith, total-less cs j h, room i (oneLess cs j) x (sym (take-off i cs j a x e h) ∙ t)))
+    (λ k. omega (arith, room i cs x k)) (letter-or-none i cs a x t)
+
+-- the first letter of an anagram, off or put on
+
+pub without-first : (cs : List ℕ) (i a : ℕ) (x : Bytes) → a ≡ suc i → 0 < getD cs i 0 → isAnagram cs (a ∷ x) ≡ isAnagram (oneLess cs i) x
+unfolding isAnagram
+without-first cs i a x e h = rw (← total-less cs i h, eqb·suc-suc, take-off 1 cs i a x (omega arith) h)
+
+-- a letter that is not counted would leave no room for those that are
+pub first-off : (cs : List ℕ) (a : ℕ) (x : Bytes) → isAnagram cs (a ∷ x) ≡ true → (i : ℕ) × (a ≡ suc i) × (0 < getD cs i 0) × (isAnagram (oneLess cs i) x ≡ true)
+first-off cs a x o =
+    let (l, t) = anagram-cases cs (a ∷ x) o in
+    ⊎-elim (λ (i, e, h). let s : a ≡ suc i = omega arith in (i, s, h, sym (without-first cs i a x s h) ∙ o))
+    (λ k. absurd (omega (arith, room 1 cs x k))) (letter-or-none 1 cs a x t)
+
+-- the empty word is the anagram of no letters
+pub empty-word : (cs : List ℕ) → total cs ≡ 0 → isAnagram cs [] ≡ true
+unfolding isAnagram
+empty-word cs e = rw (nothing-left 1 cs, e)

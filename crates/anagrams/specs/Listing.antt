@@ -1,0 +1,16 @@
+-- The listing of anagrams: by the first letter, ascending, each before the words that the letters left can make.
+-- Assumes nothing.
+use mathlib.Core.List.{List, [], _∷_, map, flatMap}
+use Prim.Native.Nat.{ℕ, zero, suc}
+use Rattle.counting.specs.Sums.{total}
+use Rattle.counting.specs.Numbers.{oneLess, lettersFrom}
+use Rattle.listings.specs.Bytes.{Bytes}
+
+-- words of m letters; letter i of the counts, from 0, is written i + 1
+unfoldable pub words : ℕ → List ℕ → List Bytes
+words zero cs = [] ∷ []
+words (suc m) cs = flatMap (λ i. map (λ x. suc i ∷ x) (words m (oneLess cs i))) (lettersFrom 0 cs)
+
+-- "the counts sum to at most 80", and the length is "that sum"
+unfoldable pub anagrams : List ℕ → List Bytes
+anagrams cs = words (total cs) cs

@@ -1,0 +1,70 @@
+-- The twelve proof cases of paper 01, as one table of facts about the definitions; proofs/Cases.antt proves that all hold.
+-- Assumes nothing.
+use mathlib.Core.Path.{_≡_}
+use mathlib.Core.List.{List, [], _∷_}
+use Prim.Native.Nat.{ℕ}
+use Rattle.listings.specs.Bytes.{Bytes}
+use Rattle.listings.specs.Calls.{Call, COUNT, LAST, NEXT, RANK, Said, COUNTED, RANKED, WRITTEN, STEPPED}
+use Rattle.families.specs.declared.Family.{Family}
+use Rattle.families.specs.Table.{lent}
+use Rattle.families.specs.Listing.{listing}
+use Rattle.families.specs.Calls.{respond}
+
+-- a call on some bytes says this; or the listing is this
+pub data Fact : Type 0 where
+  says : Call → Bytes → Said → Fact
+  lists : List Bytes → Fact
+
+-- a row of the table
+pub record Case : Type 0 where
+  pub family : Family
+  pub counts : List ℕ
+  pub facts : List Fact
+
+abbrev pub Holds : Family → List ℕ → Fact → Type 0
+Holds f cs (says c x s) = respond c f (lent cs) x ≡ s
+Holds f cs (lists l) = listing f (lent cs) ≡ l
+
+abbrev pub FactsHold : Family → List ℕ → List Fact → Type 0
+FactsHold f cs [] = Unit
+FactsHold f cs (fact ∷ facts) = Holds f cs fact × FactsHold f cs facts
+
+abbrev pub CasesHold : List Case → Type 0
+CasesHold [] = Unit
+CasesHold (c ∷ cs) = FactsHold (c .family) (c .counts) (c .facts) × CasesHold cs
+
+abbrev pub case : ℕ → ℕ → ℕ → List ℕ → List Fact → Case
+case kind n k cs facts = record { family = record { kind = kind; n = n; k = k }; counts = cs; facts = facts }
+
+-- "has rank"
+abbrev pub ranked : Bytes → ℕ → Fact
+ranked x r = says RANK x (RANKED r, x)
+
+-- "count"
+abbrev pub counted : ℕ → Fact
+counted n = says COUNT [] (COUNTED n, [])
+
+-- "after .. comes"
+abbrev pub next : Bytes → Bytes → Fact
+next x y = says NEXT x (STEPPED, y)
+
+-- LAST writes x over bytes of its length
+abbrev pub last : Bytes → Bytes → Fact
+last w x = says LAST w (WRITTEN, x)
+
+-- "Proof cases", in the order of the paper
+abbrev pub cases : List Case
+cases =
+    case 1 8 4 [] (ranked (3 ∷ 4 ∷ 6 ∷ 7 ∷ []) 30 ∷ [])
+    ∷ case 1 8 4 [] (ranked (5 ∷ 6 ∷ 7 ∷ 8 ∷ []) 69 ∷ last (0 ∷ 0 ∷ 0 ∷ 0 ∷ []) (5 ∷ 6 ∷ 7 ∷ 8 ∷ []) ∷ [])
+    ∷ case 1 5 0 [] (ranked [] 0 ∷ counted 1 ∷ [])
+    ∷ case 2 2 0 (2 ∷ 1 ∷ []) (ranked (1 ∷ 2 ∷ 1 ∷ []) 1 ∷ [])
+    ∷ case 2 3 0 (1 ∷ 0 ∷ 2 ∷ []) (next (1 ∷ 3 ∷ 3 ∷ []) (3 ∷ 1 ∷ 3 ∷ []) ∷ [])
+    ∷ case 3 3 0 [] (ranked (2 ∷ 3 ∷ 1 ∷ []) 3 ∷ [])
+    ∷ case 4 4 2 [] (ranked (1 ∷ 1 ∷ 1 ∷ 2 ∷ []) 0 ∷ ranked (1 ∷ 1 ∷ 2 ∷ 2 ∷ []) 4 ∷ counted 7 ∷ [])
+    ∷ case 5 7 3 [] (lists ((5 ∷ 1 ∷ 1 ∷ []) ∷ (4 ∷ 2 ∷ 1 ∷ []) ∷ (3 ∷ 3 ∷ 1 ∷ []) ∷ (3 ∷ 2 ∷ 2 ∷ []) ∷ []) ∷ [])
+    ∷ case 5 3 0 [] (counted 0 ∷ [])
+    ∷ case 6 3 0 [] (ranked (1 ∷ 1 ∷ 0 ∷ 0 ∷ 1 ∷ 0 ∷ []) 2 ∷ ranked (1 ∷ 1 ∷ 1 ∷ 0 ∷ 0 ∷ 0 ∷ []) 4 ∷ [])
+    ∷ case 6 4 0 [] (ranked (1 ∷ 1 ∷ 1 ∷ 0 ∷ 0 ∷ 0 ∷ 1 ∷ 0 ∷ []) 8 ∷ ranked (1 ∷ 1 ∷ 0 ∷ 1 ∷ 0 ∷ 1 ∷ 0 ∷ 0 ∷ []) 9 ∷ [])
+    ∷ case 6 7 0 [] (next (1 ∷ 1 ∷ 0 ∷ 1 ∷ 1 ∷ 0 ∷ 0 ∷ 0 ∷ 1 ∷ 1 ∷ 1 ∷ 0 ∷ 0 ∷ 0 ∷ []) (1 ∷ 1 ∷ 1 ∷ 0 ∷ 0 ∷ 1 ∷ 0 ∷ 0 ∷ 1 ∷ 0 ∷ 1 ∷ 0 ∷ 1 ∷ 0 ∷ []) ∷ [])
+    ∷ []

@@ -1,0 +1,84 @@
+-- The calls, what they answer, and what each does to an object of a listing once its questions have passed.
+-- Assumes nothing.
+use mathlib.Core.Bool.{Bool, true, false, _&&_}
+use mathlib.Core.Option.{Option, none, some, Option·map}
+use mathlib.Core.List.{List, [], _∷_}
+use Prim.Native.Nat.{ℕ, zero, suc, _-_}
+use lib.ListN.{length, getD, getElem?}
+use Rattle.listings.specs.Bytes.{Bytes, same}
+use Rattle.listings.specs.Places.{countBefore}
+
+-- "The calls"
+pub data Call : Type 0 where
+  COUNT FIRST LAST NEXT PREVIOUS RANK : Call
+  UNRANK : ℕ → Call
+
+-- what a call says: a refusal "hands back its number only"; FIRST, LAST and UNRANK say "that it is written"
+pub data Answer : Type 0 where
+  REFUSED COUNTED RANKED : ℕ → Answer
+  WRITTEN STEPPED END : Answer
+
+-- the answer, and the lent bytes after the call
+abbrev pub Said : Type 0
+Said = Answer × Bytes
+
+-- a question at the counter: its number, and whether the answer is yes
+pub record Question : Type 0 where
+  pub number : ℕ
+  pub yes? : Bool
+
+-- the later answer after a yes, this question's number after a no
+unfoldable pub orElse : Bool → ℕ → Option ℕ → Option ℕ
+orElse true q later = later
+orElse false q later = some q
+
+-- "They are put in this order; the first no is the refusal"
+unfoldable pub firstNo : List Question → Option ℕ
+firstNo [] = none
+firstNo (q ∷ qs) = orElse (q .yes?) (q .number) (firstNo qs)
+
+-- "a refusal changes no lent byte"
+unfoldable pub judged : Option ℕ → Bytes → Said → Said
+judged none x s = s
+judged (some q) x s = (REFUSED q, x)
+
+-- here, or one place behind where the rest of the list has it
+unfoldable pub found : Bool → Option ℕ → Option ℕ
+found true m = some 0
+found false m = Option·map suc m
+
+-- the place of the first entry that equals x
+unfoldable pub placeOf : List Bytes → Bytes → Option ℕ
+placeOf [] x = none
+placeOf (y ∷ l) x = found (same y x) (placeOf l x)
+
+-- the object "just after" a place, if there is one
+unfoldable pub onward : List Bytes → Option ℕ → Option Bytes
+onward l none = none
+onward l (some p) = getElem? l (suc p)
+
+-- and "before it"
+unfoldable pub backward : List Bytes → Option ℕ → Option Bytes
+backward l none = none
+backward l (some zero) = none
+backward l (some (suc p)) = getElem? l p
+
+-- "replace the object in the lent bytes .., or answer END and change nothing"
+unfoldable pub stepped : Bytes → Option Bytes → Said
+stepped x none = (END, x)
+stepped x (some y) = (STEPPED, y)
+
+-- what a call whose questions have passed answers and leaves, on the listing l in the order lt and the lent bytes x
+unfoldable pub act : Call → (Bytes → Bytes → Bool) → List Bytes → Bytes → Said
+act COUNT lt l x = (COUNTED (length l), x)
+act FIRST lt l x = (WRITTEN, getD l 0 x)
+act LAST lt l x = (WRITTEN, getD l (length l - 1) x)
+act NEXT lt l x = stepped x (onward l (placeOf l x))
+act PREVIOUS lt l x = stepped x (backward l (placeOf l x))
+act RANK lt l x = (RANKED (countBefore lt x l), x)
+act (UNRANK r) lt l x = (WRITTEN, getD l r x)
+
+-- a list of calls, each on the bytes that the one before it left
+unfoldable pub responses : (Call → Bytes → Said) → Bytes → List Call → List Said
+responses answer x [] = []
+responses answer x (c ∷ cs) = answer c x ∷ responses answer (answer c x .1) cs

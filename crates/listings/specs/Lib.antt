@@ -1,0 +1,8 @@
+-- What a listing is, where things stand in it, and what calls do to it: the words that all kinds of family share.
+pub mod Bytes
+pub mod Orders
+pub mod Listings
+pub mod Places
+pub mod Calls
+pub mod Marker
+pub mod Runs

@@ -1,0 +1,80 @@
+-- Paper 01's marker on a listing. It is fed the bytes before the first call and the calls, but none of their answers.
+-- Assumes nothing.
+use mathlib.Core.Bool.{Bool, true, false}
+use mathlib.Core.Option.{Option, none, some}
+use mathlib.Core.List.{List, [], _∷_}
+use Prim.Native.Nat.{ℕ, zero, suc, _-_}
+use lib.Dec.{ltb}
+use lib.ListN.{length, getD}
+use Rattle.listings.specs.Bytes.{Bytes}
+use Rattle.listings.specs.Calls.{Call, COUNT, FIRST, LAST, NEXT, PREVIOUS, RANK, UNRANK, Answer, REFUSED, COUNTED, RANKED, WRITTEN, STEPPED, END, Said, placeOf}
+
+-- the place of the object at which the marker stands, or nowhere
+abbrev pub Mark : Type 0
+Mark = Option ℕ
+
+-- "It starts at the object that equals these bytes, or nowhere if none does"
+abbrev pub start : List Bytes → Bytes → Mark
+start l s = placeOf l s
+
+-- "question 7 being whether the marker stands at an object"
+unfoldable pub stands : Mark → Bool
+stands none = false
+stands (some p) = true
+
+-- "The bytes after a call are the object it stands at or, while it stands nowhere, those before the first call"
+unfoldable pub shown : List Bytes → Bytes → Mark → Bytes
+shown l s none = s
+shown l s (some p) = getD l p s
+
+-- "the answer is that it stepped; with no object there the answer is END and it stays"
+unfoldable pub stepsTo : Bool → ℕ → Mark → Answer × Mark
+stepsTo true p m = (STEPPED, some p)
+stepsTo false p m = (END, m)
+
+-- "NEXT moves it one on"
+unfoldable pub oneOn : List Bytes → Mark → Answer × Mark
+oneOn l none = (END, none)
+oneOn l (some p) = stepsTo (ltb (suc p) (length l)) (suc p) (some p)
+
+-- "PREVIOUS one back"
+unfoldable pub oneBack : List Bytes → Mark → Answer × Mark
+oneBack l none = (END, none)
+oneBack l (some zero) = (END, some zero)
+oneBack l (some (suc p)) = (STEPPED, some p)
+
+-- as many objects come before it as its place says
+unfoldable pub rankAt : Mark → ℕ
+rankAt none = 0
+rankAt (some p) = p
+
+-- "FIRST moves it to the first object, LAST to the last, UNRANK to the object with as many before it as the rank says .. NEXT moves it
+-- one on, PREVIOUS one back"; COUNT and RANK leave it where it is
+unfoldable pub move : Call → List Bytes → Mark → Answer × Mark
+move COUNT l m = (COUNTED (length l), m)
+move FIRST l m = (WRITTEN, some 0)
+move LAST l m = (WRITTEN, some (length l - 1))
+move NEXT l m = oneOn l m
+move PREVIOUS l m = oneBack l m
+move RANK l m = (RANKED (rankAt m), m)
+move (UNRANK r) l m = (WRITTEN, some r)
+
+-- "The first no is answered by its number, and the marker stays"
+unfoldable pub marked : Option ℕ → Mark → Answer × Mark → Answer × Mark
+marked none m a = a
+marked (some q) m a = (REFUSED q, m)
+
+-- "For each call its questions below are put": refuse gives the first no of a call, for a buffer's length and the answer to question 7
+abbrev pub Refuse : Type 0
+Refuse = Call → ℕ → Bool → Option ℕ
+
+-- the answers and the bytes after each call, from where the marker stands
+unfoldable pub runFrom : Refuse → List Bytes → Bytes → Mark → List Call → List Said
+runFrom refuse l s m [] = []
+runFrom refuse l s m (c ∷ cs) =
+    let a = marked (refuse c (length s) (stands m)) m (move c l m) in
+    (a .0, shown l s (a .1)) ∷ runFrom refuse l s (a .1) cs
+
+-- from where it starts
+unfoldable pub markerRun : Refuse → List Bytes → Bytes → List Call → List Said
+markerRun refuse l s cs = runFrom refuse l s (start l s) cs

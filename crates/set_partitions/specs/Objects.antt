@@ -1,0 +1,32 @@
+-- Kind 4, set partitions ("flask sharing"): the test of being one of n models into k blocks, the keys, and the order.
+-- Assumes nothing.
+use mathlib.Core.Bool.{Bool, true, false, _&&_}
+use mathlib.Core.List.{[], _∷_}
+use Prim.Native.Nat.{ℕ, suc, max}
+use lib.Dec.{leb, ltb, eqb}
+use lib.ListN.{length}
+use Rattle.listings.specs.Bytes.{Bytes}
+use Rattle.listings.specs.Orders.{lastDiffers}
+
+-- with the blocks 1 to m used so far, the next model is in one of them or is the smallest of block m + 1; at the end all k are used
+unfoldable pub opens : ℕ → ℕ → Bytes → Bool
+opens m k [] = eqb m k
+opens m k (b ∷ x) = leb 1 b && leb b (suc m) && opens (max m b) k x
+
+-- "byte i is the block of model i; blocks are 1 to k, all used, numbered by their smallest model"
+unfoldable pub isSetPartition : ℕ → ℕ → Bytes → Bool
+isSetPartition n k x = eqb (length x) n && opens 0 k x
+
+-- a block above all used so far is a new one
+unfoldable pub keyOf : Bool → ℕ → ℕ
+keyOf true b = 0
+keyOf false b = b
+
+-- "model i has key 0 if it is the smallest of its block, else its block number"
+unfoldable pub keys : ℕ → Bytes → Bytes
+keys m [] = []
+keys m (b ∷ x) = keyOf (ltb m b) b ∷ keys (max m b) x
+
+-- "At the largest i whose keys differ, the smaller key"
+unfoldable pub setPartitionBefore : Bytes → Bytes → Bool
+setPartitionBefore x y = lastDiffers (keys 0 x) (keys 0 y)
