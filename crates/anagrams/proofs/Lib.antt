@@ -2,3 +2,14 @@
 pub mod Facts
 pub mod Theorem
 pub mod PermutationTheorem
+pub mod Rearranging
+pub mod Neighbours
+pub mod Tails
+pub mod Swaps
+pub mod Moves
+pub mod Sorted
+pub mod Shares
+pub mod Placing
+pub mod Spending
+pub mod Fronts
+pub mod Ones

@@ -62,13 +62,13 @@ ascending-words (suc m) cs =
     rw (← ev, ← ew) (first-less _ _ v w (omega (arith, ltb-true i j h))))
 
 -- no letters make one word, the empty one
-one-empty : (cs : List ℕ) → total cs ≡ 0 → multinomialOf cs ≡ 1
+pub one-empty : (cs : List ℕ) → total cs ≡ 0 → multinomialOf cs ≡ 1
 unfolding multinomialOf total
 one-empty [] s = refl
 one-empty (zero ∷ cs) s = rw (choose-zero, one-mul) (one-empty cs (omega arith))
 one-empty (suc c ∷ cs) s = absurd (omega arith)
 
-counted-words : (m : ℕ) (cs : List ℕ) → total cs ≡ m → length (words m cs) ≡ multinomialOf cs
+pub counted-words : (m : ℕ) (cs : List ℕ) → total cs ≡ m → length (words m cs) ≡ multinomialOf cs
 unfolding words
 counted-words zero cs s = sym (one-empty cs s)
 counted-words (suc m) cs s =

@@ -2,3 +2,4 @@
 pub mod Objects
 pub mod Listing
 pub mod Permutations
+pub mod Directions

@@ -11,3 +11,5 @@ pub mod Uniqueness
 pub mod Standing
 pub mod Demand
 pub mod Walks
+pub mod Fills
+pub mod Stepping

@@ -6,3 +6,4 @@ pub mod Places
 pub mod Calls
 pub mod Marker
 pub mod Runs
+pub mod Steps

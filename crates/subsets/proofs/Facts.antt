@@ -13,7 +13,7 @@ use lib.Seq.{take-all, take-suc}
 use borrow.Author.Tests.{ltb-true, leb-true, eqb-true, lt-ltb, le-leb, eq-eqb}
 use Rattle.listings.specs.Bytes.{Bytes}
 use Rattle.listings.proofs.Bools.{and-true, and-makes}
-use Rattle.listings.proofs.OrderFacts.{smaller-last, earlier-front}
+use Rattle.listings.proofs.OrderFacts.{smaller-last}
 use Rattle.subsets.specs.Objects.{climbs, isSubset, subsetBefore}
 
 -- climbing numbers, by the first
@@ -95,10 +95,11 @@ put-on n k m x h e =
     subset-makes n (suc k) (x ++ (suc m ∷ [])) (omega (arith, length-append x (suc m ∷ []))) (climbs-on 0 n m x (omega arith) h (both .1))
 
 -- a subset of one number or more is its front and its last number
+pub ends-in : (k : ℕ) (x : Bytes) → length x ≡ suc k → x ≡ take k x ++ (getD x k 0 ∷ [])
+ends-in k x e = sym (take-all (suc k) x (omega arith)) ∙ take-suc x k 0 (omega arith)
+
 pub in-two : (n k : ℕ) (x : Bytes) → isSubset n (suc k) x ≡ true → x ≡ take k x ++ (getD x k 0 ∷ [])
-in-two n k x e =
-    let both = subset-cases n (suc k) x e in
-    sym (take-all (suc k) x (omega arith)) ∙ take-suc x k 0 (omega arith)
+in-two n k x e = ends-in k x (subset-cases n (suc k) x e .0)
 
 pub topped : (n k : ℕ) (x : Bytes) → isSubset n (suc k) x ≡ true → Topped n k (take k x) (getD x k 0)
 topped n k x e = take-off n k (take k x) (getD x k 0) (rw (in-two n k x e) at e)

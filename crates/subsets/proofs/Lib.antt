@@ -1,4 +1,9 @@
--- The laws of subsets: what the test says, and that the listing is the listing of them.
+-- The laws of subsets: what the test says, that the listing is the listing of them, where they stand in it, and what a step and a rank come to in lists.
 pub mod Facts
 pub mod Theorem
+pub mod Reading
+pub mod Places
+pub mod Moves
+pub mod Lent
+pub mod Ranking
 pub mod Dictionary

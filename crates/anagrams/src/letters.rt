@@ -1,0 +1,57 @@
+// Letters that are left: a copy to take them from, taken one by one, and whether none is left.
+ghost use mathlib.Core.Path.{_≡_};
+ghost use Prim.Native.Nat.{_≤_};
+ghost use lib.Dec.{eqb};
+ghost use lib.ListN.{length, take};
+ghost use Rattle.counting.specs.Limits.{places};
+ghost use Rattle.counting.specs.Sums.{total};
+ghost use Rattle.anagrams.specs.Objects.{isAnagram};
+use listings::copy;
+
+// The counts of the letters again, to take letters from.
+pub fn copied(counts: &[u8]) -> [u8; 80]
+    requires { ⌜ length (now counts) ≤ places ⌝ }
+    ensures { λ r. ⌜ (places ≡ length r) × (take (length (now (counts .entry))) r ≡ now (counts .entry)) ⌝ }
+{
+    let mut space = [0u8; 80];
+    let n = counts.len();
+    copy(&mut space[..n], counts);
+    space
+}
+
+// Is no letter left?
+pub fn none_left(left: &[u8]) -> bool
+    ensures { λ r. ⌜ r ≡ eqb (total (now (left .entry))) 0 ⌝ }
+{
+    let mut i = 0;
+    while i < left.len() {
+        if left[i] != 0 {
+            return false;
+        }
+        i += 1;
+    }
+    true
+}
+
+// Takes each letter of the word from those left. Is every one there, and none left at the end?
+pub fn spend_all(left: &mut [u8], object: &[u8]) -> bool
+    ensures { λ r. ⌜ r ≡ isAnagram (now (left .entry)) (now (object .entry)) ⌝ }
+{
+    let mut i = 0;
+    while i < object.len() {
+        let a = object[i] as usize;
+        if a == 0 {
+            return false;
+        }
+        let at = a - 1;
+        if left.len() <= at {
+            return false;
+        }
+        if left[at] == 0 {
+            return false;
+        }
+        left[at] -= 1;
+        i += 1;
+    }
+    none_left(left)
+}

@@ -1,0 +1,2 @@
+-- What the program's guards tell: a count that is answered exactly.
+pub mod ExactCounts

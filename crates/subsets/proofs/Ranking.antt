@@ -1,0 +1,100 @@
+-- The rank of a subset by its last number, b: those below b come first, and then as many as before the numbers in front of it.
+-- Assumes nothing.
+use mathlib.Core.Path.{_≡_, refl, _∙_, ap}
+use mathlib.Core.Bool.{true}
+use mathlib.Core.List.{[], _∷_, _++_}
+use Prim.Native.Nat.{ℕ, zero, suc, _+_, _-_, _≤_, _<_}
+use native.Mathlib.Numerals.{add-one}
+use native.Mathlib.Decide.{decLe}
+use native.Mathlib.Omega.{arith}
+use lib.ListN.{length, take, drop, getD, set, drop-of-length-le}
+use lib.Seq.{length-take-le}
+use Rattle.counting.specs.Numbers.{choose}
+use Rattle.counting.proofs.Laws.{pascal, choose-none, choose-mono}
+use Rattle.listings.specs.Bytes.{Bytes}
+use Rattle.listings.specs.Orders.{lastDiffers}
+use Rattle.listings.specs.Places.{At, countBefore}
+use Rattle.listings.proofs.PlaceRules.{at-below}
+use Rattle.listings.proofs.Ranks.{place-is-rank}
+use Rattle.listings.proofs.Stepping.{at-rank}
+use Rattle.subsets.specs.Objects.{isSubset, subsetBefore}
+use Rattle.subsets.specs.Listing.{subsets}
+use Rattle.subsets.proofs.Facts.{in-two, topped}
+use Rattle.subsets.proofs.Theorem.{counted, lists}
+use Rattle.subsets.proofs.Places.{on-top}
+use Rattle.subsets.proofs.Lent.{front-long, rest}
+
+-- how many come before x
+abbrev pub rankOf : ℕ → Bytes → ℕ
+rankOf n x = countBefore subsetBefore x (subsets n (length x))
+
+pub below-count : (n : ℕ) (x : Bytes) → isSubset n (length x) x ≡ true → rankOf n x < choose n (length x)
+below-count n x o = omega (arith, at-below (subsets n (length x)) (rankOf n x) (at-rank (lists n (length x)) x o), counted n (length x))
+
+pub rank-of-none : (n : ℕ) (x : Bytes) → length x ≡ 0 → 0 ≡ rankOf n x
+unfolding subsets countBefore lastDiffers
+rank-of-none n [] e = refl
+rank-of-none n (b ∷ x) e = absurd (omega arith)
+
+by-last : (n top end : ℕ) {x : Bytes} (front : Bytes) → x ≡ front ++ (suc top ∷ []) → top < n → isSubset top end front ≡ true
+    → countBefore subsetBefore x (subsets n (suc end)) ≡ choose top (suc end) + countBefore subsetBefore front (subsets top end)
+by-last n top end front e h o =
+    let r = countBefore subsetBefore front (subsets top end) in
+    rw e (place-is-rank (lists n (suc end)) (choose top (suc end) + r) (on-top n top end r h (at-rank (lists top end) front o)))
+
+-- fewer numbers to choose from, and one fewer to choose
+one-fewer : (n top k : ℕ) → top < n → choose top k ≤ choose n (suc k)
+one-fewer n top k h = omega (arith, pascal top k, choose-mono (suc k) h)
+
+-- a subset and its last number
+pub record Parted (n end b : ℕ) (x : Bytes) : Type 0 where
+  pub some : 1 ≤ b
+  pub high : b ≤ n
+  pub long : length (take end x) ≡ end
+  pub front : isSubset (b - 1) (length (take end x)) (take end x) ≡ true
+  pub rank : rankOf n x ≡ choose (b - 1) (length x) + rankOf (b - 1) (take end x)
+  pub fewer : choose (b - 1) (length x) ≤ choose n (length x)
+  pub fewer-front : choose (b - 1) (length (take end x)) ≤ choose n (length x)
+
+pub parted : (n end b : ℕ) (x : Bytes) → isSubset n (length x) x ≡ true → length x ≡ suc end → b ≡ getD x end 0 → Parted n end b x
+parted n end b x o e f =
+    let o′ : isSubset n (suc end) x ≡ true = rw e at o in
+    let t = topped n end x o′ in
+    let top : b - 1 ≡ t .top = omega (arith, t .last) in
+    let l : length (take end x) ≡ end = length-take-le end x (omega arith) in
+    record {
+      some = omega (arith, t .last);
+      high = omega (arith, t .last, t .below);
+      long = l;
+      front = rw (l, top) (t .front);
+      rank = rw (l, top, e) (by-last n (t .top) end (take end x) (rw (t .last) at (in-two n end x o′)) (t .below) (t .front));
+      fewer = choose-mono (length x) (omega (arith, t .last, t .below));
+      fewer-front = rw (l, top, e) (one-fewer n (t .top) end (t .below));
+    }
+
+-- a rank below a count tells that there is something to count
+pub within-places : (n k r : ℕ) → r < choose n k → k ≤ n
+within-places n k r h = elim (decLe k n) [ yes le ↦ le | no more ↦ absurd (omega (arith, choose-none n k (omega arith))) ]
+
+-- there is one subset of no numbers
+pub unrank-none : (n r : ℕ) (x : Bytes) → length x ≡ 0 → r < choose n (length x) → At (subsets n (length x)) x r
+unfolding subsets choose
+unrank-none n zero [] e h = refl
+unrank-none n (suc r) [] e h = absurd (omega arith)
+unrank-none n r (b ∷ x) e h = absurd (omega arith)
+
+-- what is left of a rank is a rank of the numbers in front
+pub rest-below : (n top k j r : ℕ) → k ≡ suc j → top < n → choose top k ≤ r → r < choose (suc top) k → (choose top j ≤ choose n k) × (r - choose top k < choose top j)
+rest-below n top k j r e h low high = (rw e (one-fewer n top j h), omega (arith, pascal top j, ap (choose top) e, ap (choose (suc top)) e))
+
+-- the other way: the last number is written, and the numbers in front of it by their rank
+
+tail : (top end : ℕ) (x : Bytes) → length x ≡ suc end → drop end (set x end (top + 1)) ≡ suc top ∷ []
+tail top end x e = rest x end (top + 1) (omega arith) ∙ rw (add-one, drop-of-length-le x {i = suc end} (omega arith))
+
+pub unranked : (n top end r : ℕ) (x : Bytes) {part : Bytes} → length x ≡ suc end → top < n → choose top (length x) ≤ r
+    → At (subsets top (length (take end (set x end (top + 1))))) part (r - choose top (length x)) → At (subsets n (length x)) (part ++ drop end (set x end (top + 1))) r
+unranked n top end r x e h low here =
+    let q = r - choose top (suc end) in
+    let p : choose top (suc end) + q ≡ r = omega (arith, ap (choose top) e) in
+    rw (tail top end x e, e, ← p) (on-top n top end q h (rw (front-long x end (top + 1) (omega arith), e) at here))
