@@ -1,7 +1,7 @@
 -- What the test of an integer partition says; taking the last part off, and putting one on.
 -- Assumes nothing.
 use mathlib.Core.Path.{_≡_, refl, sym, _∙_, subst}
-use mathlib.Core.Bool.{Bool, true, false, _&&_, and-false}
+use mathlib.Core.Bool.{Bool, true, false, _&&_, and-true as and-with-true, and-false}
 use mathlib.Core.List.{[], _∷_, _++_}
 use Prim.Native.Nat.{ℕ, suc, _+_, _-_, _≤_}
 use native.Mathlib.Omega.{arith}
@@ -32,24 +32,37 @@ partition-makes f n k x p = and-makes (and-makes (eq-eqb (length x) k (p .size))
 
 -- one more part at the end
 
+pub total-append : (x y : Bytes) → total (x ++ y) ≡ total x + total y
+unfolding total
+total-append [] y = omega arith
+total-append (a ∷ x) y = omega (arith, total-append x y)
+
 total-snoc : (x : Bytes) (p : ℕ) → total (x ++ (p ∷ [])) ≡ total x + p
 unfolding total
-total-snoc [] p = omega arith
-total-snoc (a ∷ x) p = omega (arith, total-snoc x p)
+total-snoc x p = omega (arith, total-append x (p ∷ []))
 
-head-snoc : (x : Bytes) (p f : ℕ) → getD (x ++ (p ∷ [])) 0 f ≡ getD x 0 p
-head-snoc [] p f = refl
-head-snoc (a ∷ x) p f = refl
+head-append : (x y : Bytes) (f : ℕ) → getD (x ++ y) 0 f ≡ getD x 0 (getD y 0 f)
+head-append [] y f = refl
+head-append (a ∷ x) y f = refl
 
 swap : (a b c : Bool) → (a && (b && c)) ≡ (b && (a && c))
 swap true b c = refl
 swap false b c = sym (and-false b)
 
--- the last part is the floor of the others
-descends-snoc : (f : ℕ) (x : Bytes) (p : ℕ) → descends f (x ++ (p ∷ [])) ≡ (leb f p && descends p x)
+-- the first of the parts behind is the floor of those in front
+pub descends-append : (f : ℕ) (x y : Bytes) → descends f (x ++ y) ≡ (descends f y && descends (getD y 0 f) x)
 unfolding descends
-descends-snoc f [] p = refl
-descends-snoc f (a ∷ x) p = rw (head-snoc x p f, descends-snoc f x p) (swap (leb (getD x 0 p) a) (leb f p) (descends p x))
+descends-append f [] y = sym (and-with-true (descends f y))
+descends-append f (a ∷ x) y =
+    rw (head-append x y f, descends-append f x y) (swap (leb (getD x 0 (getD y 0 f)) a) (descends f y) (descends (getD y 0 f) x))
+
+pub descends-cons : (f a : ℕ) (x : Bytes) → descends f (a ∷ x) ≡ true → (getD x 0 f ≤ a) × (descends f x ≡ true)
+unfolding descends
+descends-cons f a x e = let both = and-true (leb (getD x 0 f) a) (descends f x) e in (leb-true (getD x 0 f) a (both .0), both .1)
+
+pub descends-makes : (f a : ℕ) (x : Bytes) → getD x 0 f ≤ a → descends f x ≡ true → descends f (a ∷ x) ≡ true
+unfolding descends
+descends-makes f a x h e = and-makes (le-leb (getD x 0 f) a h) e
 
 -- x with p behind it is a partition of n over f
 pub record Ends (f n k : ℕ) (x : Bytes) (p : ℕ) : Type 0 where
@@ -60,22 +73,28 @@ pub record Ends (f n k : ℕ) (x : Bytes) (p : ℕ) : Type 0 where
 pub snoc-cases : (f n k : ℕ) (x : Bytes) (p : ℕ) → isIntegerPartition f n (suc k) (x ++ (p ∷ [])) ≡ true → Ends f n k x p
 snoc-cases f n k x p o =
     let whole = partition-cases f n (suc k) (x ++ (p ∷ [])) o in
-    let both = and-true (leb f p) (descends p x) (sym (descends-snoc f x p) ∙ whole .down) in
+    let both = and-true (descends f (p ∷ [])) (descends p x) (sym (descends-append f x (p ∷ [])) ∙ whole .down) in
     record {
-      from = leb-true f p (both .0);
+      from = descends-cons f p [] (both .0) .0;
       within = omega (arith, total-snoc x p);
       rest = partition-makes p (n - p) k x (record { size = omega (arith, length-append x (p ∷ [])); sum = omega (arith, total-snoc x p); down = both .1 });
     }
 
 pub snoc-makes : (f n k : ℕ) (x : Bytes) (p : ℕ) → Ends f n k x p → isIntegerPartition f n (suc k) (x ++ (p ∷ [])) ≡ true
+unfolding descends
 snoc-makes f n k x p e =
     let front = partition-cases p (n - p) k x (e .rest) in
     partition-makes f n (suc k) (x ++ (p ∷ []))
-    (record { size = omega (arith, length-append x (p ∷ [])); sum = omega (arith, total-snoc x p); down = descends-snoc f x p ∙ and-makes (le-leb f p (e .from)) (front .down) })
+    (record { size = omega (arith, length-append x (p ∷ [])); sum = omega (arith, total-snoc x p); down = descends-append f x (p ∷ []) ∙ and-makes (descends-makes f p [] (e .from) refl) (front .down) })
 
 -- a partition into k + 1 parts is its front and its last part
+
+pub last-on : (k : ℕ) (x : Bytes) → length x ≡ suc k → take k x ++ (getD x k 0 ∷ []) ≡ x
+last-on k x e = sym (take-suc x k 0 (omega arith)) ∙ take-all (suc k) x (omega arith)
+
+pub last-ends : (f n k : ℕ) (x : Bytes) → isIntegerPartition f n (suc k) x ≡ true → Ends f n k (take k x) (getD x k 0)
+last-ends f n k x o =
+    snoc-cases f n k (take k x) (getD x k 0) (subst (λ z. isIntegerPartition f n (suc k) z ≡ true) (sym (last-on k x (partition-cases f n (suc k) x o .size))) o)
+
 pub last-off : (f n k : ℕ) (x : Bytes) → isIntegerPartition f n (suc k) x ≡ true → (y : Bytes) × (p : ℕ) × Ends f n k y p × (y ++ (p ∷ []) ≡ x)
-last-off f n k x o =
-    let size : length x ≡ suc k = partition-cases f n (suc k) x o .size in
-    let e : take k x ++ (getD x k 0 ∷ []) ≡ x = sym (take-suc x k 0 (omega arith)) ∙ take-all (suc k) x (omega arith) in
-    (take k x, getD x k 0, snoc-cases f n k (take k x) (getD x k 0) (subst (λ z. isIntegerPartition f n (suc k) z ≡ true) (sym e) o), e)
+last-off f n k x o = (take k x, getD x k 0, last-ends f n k x o, last-on k x (partition-cases f n (suc k) x o .size))

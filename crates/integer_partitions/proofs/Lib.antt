@@ -1,3 +1,9 @@
--- Kind 5: what the test of an integer partition says, and that the list is the listing.
+-- Kind 5: what the test of an integer partition says, that the list is the listing, its first and last, the steps and the ranks in it.
 pub mod Facts
 pub mod Theorem
+pub mod Parts
+pub mod Extremes
+pub mod Moves
+pub mod Ranks
+pub mod Testing
+pub mod Small

@@ -24,7 +24,7 @@ pub long : (f n k : ℕ) (x : Bytes) → isIntegerPartition f n k x ≡ true →
 long f n k x o = partition-cases f n k x o .size
 
 -- the partitions of n into k + 1 parts that end with p
-abbrev ending : ℕ → ℕ → ℕ → List Bytes
+abbrev pub ending : ℕ → ℕ → ℕ → List Bytes
 ending k n p = map (λ x. x ++ (p ∷ [])) (integerPartitions k p (n - p))
 
 every : (k f n : ℕ) (x : Bytes) → isIntegerPartition f n k x ≡ true → List·Memᴰ x (integerPartitions k f n)

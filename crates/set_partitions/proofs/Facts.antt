@@ -183,7 +183,7 @@ pub record Taken (n k b : ℕ) (x : Bytes) : Type 0 where
   pub front : isSetPartition n (othersIn k key) x ≡ true
 
 -- its key: 0 if its block is above all that the others use, else its block
-key-found : (j k b : ℕ) → 1 ≤ b → b ≤ suc j → max j b ≡ suc k → (c : ℕ) × (c ≤ suc k) × (b ≡ blockOf k c) × (j ≡ othersIn k c)
+pub key-found : (j k b : ℕ) → 1 ≤ b → b ≤ suc j → max j b ≡ suc k → (c : ℕ) × (c ≤ suc k) × (b ≡ blockOf k c) × (j ≡ othersIn k c)
 unfolding othersIn blockOf
 key-found j k zero from upto all = absurd (omega arith)
 key-found j k (suc b) from upto all = step (decLt j (suc b))

@@ -1,17 +1,21 @@
 -- The order of the keys, and what it makes of the order of set partitions: all that depends on which key comes first is here.
 -- Assumes nothing.
-use mathlib.Core.Path.{_≡_, refl, sym, _∙_}
+use mathlib.Core.Path.{_≡_, refl, sym, _∙_, ap}
 use mathlib.Core.Logic.{_⊎_, inl, inr}
 use mathlib.Core.Bool.{Bool, true, _&&_, _||_}
+use mathlib.Core.Option.{Option, some}
 use mathlib.Core.List.{[], _∷_, _++_, List·Memᴰ, List·Memᴰ·head, List·Memᴰ·tail, List·Memᴰ·cases-cons}
-use Prim.Native.Nat.{ℕ, zero, suc, _+_, _≤_}
+use Prim.Native.Nat.{ℕ, zero, suc, _+_, _≤_, _<_}
+use native.Mathlib.Nat.{zero-add, add-zero, suc-add, add-suc}
 use native.Mathlib.Omega.{arith}
 use lib.Dec.{ltb, eqb}
+use lib.ListN.{take}
 use borrow.Author.Tests.{lt-ltb, eq-eqb}
 use Rattle.counting.specs.Sums.{range, sumOver}
-use Rattle.counting.proofs.Laws.{between, in-range}
+use Rattle.counting.proofs.Laws.{length-range, between, in-range}
 use Rattle.listings.specs.Bytes.{Bytes}
 use Rattle.listings.specs.Orders.{lastDiffers}
+use Rattle.listings.specs.Places.{At, Follows, First, Last}
 use Rattle.listings.specs.Listings.{Ascending, more, StrictTotal}
 use Rattle.listings.proofs.AscendingRules.{ascending-range}
 use Rattle.listings.proofs.Bools.{and-makes, or-left, or-right}
@@ -44,6 +48,39 @@ listed-key k c m = step (List·Memᴰ·cases-cons m)
 pub over-keys : (k : ℕ) (g : ℕ → ℕ) → sumOver (keysInOrder k) g ≡ g 0 + sumOver (range 1 k) g
 unfolding keysInOrder sumOver
 over-keys k g = refl
+
+-- where a key stands among the keys, which comes first, last and next, and which come before it
+
+at-range : (a m i : ℕ) → i < m → At (range a m) (a + i) i
+unfolding range
+at-range a zero i h = absurd (omega arith)
+at-range a (suc m) zero h = ap {B = Option ℕ} some (sym (add-zero a))
+at-range a (suc m) (suc i) h = at-range (suc a) m i (omega arith) ∙ rw (suc-add, add-suc)
+
+pub at-key : (k c : ℕ) → c ≤ k → At (keysInOrder k) c c
+unfolding keysInOrder
+at-key k zero h = refl
+at-key k (suc b) h = at-range 1 k b h ∙ rw (suc-add, zero-add)
+
+pub first-key : (k : ℕ) → First (keysInOrder k) 0
+first-key k = at-key k 0 (omega arith)
+
+pub last-key : (k : ℕ) → Last (keysInOrder k) k
+unfolding keysInOrder
+last-key k = record { place = k; here = at-key k k (omega arith); final = ap suc (sym (length-range 1 k)) }
+
+pub next-key : (k c : ℕ) → c < k → Follows (keysInOrder k) c (suc c)
+next-key k c h = record { place = c; here = at-key k c (omega arith); there = at-key k (suc c) h }
+
+take-range : (a m i : ℕ) → i ≤ m → take i (range a m) ≡ range a i
+unfolding range
+take-range a m zero h = refl
+take-range a zero (suc i) h = absurd (omega arith)
+take-range a (suc m) (suc i) h = ap {B = Bytes} (λ l. a ∷ l) (take-range (suc a) m i (omega arith))
+
+pub keys-before : (k b : ℕ) → b ≤ k → take (suc b) (keysInOrder k) ≡ keysInOrder b
+unfolding keysInOrder
+keys-before k b h = ap {B = Bytes} (λ l. 0 ∷ l) (take-range 1 k b h)
 
 -- the order of two partitions by the keys of their last models
 

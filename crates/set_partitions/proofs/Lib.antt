@@ -1,4 +1,13 @@
--- Kind 4: the list of the set partitions is their listing, and how many there are.
+-- Kind 4: the list of the set partitions is their listing, how many there are, and what the functions do by it.
 pub mod Facts
 pub mod KeyOrder
 pub mod Theorem
+pub mod KeySteps
+pub mod Parts
+pub mod KeyEnds
+pub mod Fronts
+pub mod Steps
+pub mod KeyMoves
+pub mod Uses
+pub mod Reading
+pub mod Ranking

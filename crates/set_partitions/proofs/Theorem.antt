@@ -1,18 +1,21 @@
--- The list of the set partitions of n models into k blocks is their listing, and its length is the Stirling number.
+-- The list of the set partitions of n models into k blocks is their listing, its length is the Stirling number, and when it is empty.
 -- Assumes nothing.
 use mathlib.Core.Path.{_≡_, refl, sym, _∙_, ap, subst, subst₂, fun-ext}
 use mathlib.Core.Bool.{true}
 use mathlib.Core.List.{List, [], _∷_, _++_, map, flatMap, List·Memᴰ, List·Memᴰ·head, List·Memᴰ·tail, List·Memᴰ·eq-of-singleton, List·Memᴰ·not-nil, Memᴰ·map, Memᴰ·of-map, Memᴰ·cast}
-use Prim.Native.Nat.{ℕ, zero, suc, _*_}
+use Prim.Native.Nat.{ℕ, zero, suc, _+_, _*_, _≤_, _<_}
 use native.Mathlib.Nat.{suc-mul, zero-mul}
+use native.Mathlib.Decide.{decLt}
 use native.Mathlib.Omega.{arith}
 use lib.ListN.{length, length-map}
 use Rattle.counting.specs.Sums.{range, sumOver}
 use Rattle.counting.specs.Numbers.{stirlingOf}
-use Rattle.counting.proofs.Laws.{stirling-rule, length-range, between}
+use Rattle.counting.proofs.Laws.{length-range, between, stirling-none, stirling-zero}
 use Rattle.listings.specs.Bytes.{Bytes}
 use Rattle.listings.specs.Listings.{Ascending, none, more, Listing}
 use Rattle.listings.proofs.AscendingRules.{ascending-map, ascending-flatMap}
+use Rattle.listings.specs.Places.{At}
+use Rattle.listings.proofs.PlaceRules.{at-below}
 use Rattle.listings.proofs.Members.{flatMap-in, flatMap-of, length-flatMap}
 use Rattle.set_partitions.specs.Objects.{opens, isSetPartition, setPartitionBefore}
 use Rattle.set_partitions.specs.Listing.{keysInOrder, withKey, setPartitions}
@@ -96,28 +99,53 @@ ascending (suc n) (suc k) = ascending-more n k (ascending n)
 pub lists : (n k : ℕ) → Listing (isSetPartition n k) setPartitionBefore (setPartitions n k)
 lists n k = record { order = before-strict n k; every = every n k; only = only n k; ascending = ascending n k }
 
--- how many there are
+-- how many there are: with the keys up to b, and in all
 
 sumOver-constant : (l : List ℕ) (g : ℕ → ℕ) (v : ℕ) → ((x : ℕ) → List·Memᴰ x l → g x ≡ v) → sumOver l g ≡ length l * v
 unfolding sumOver
 sumOver-constant [] g v same = sym (zero-mul v)
 sumOver-constant (x ∷ l) g v same = rw (suc-mul, same x (List·Memᴰ·head refl), sumOver-constant l g v (λ y m. same y (List·Memᴰ·tail m))) (omega arith)
 
-counted-more : (n k : ℕ) → ((j : ℕ) → length (setPartitions n j) ≡ stirlingOf n j) → length (setPartitions (suc n) (suc k)) ≡ stirlingOf (suc n) (suc k)
+with-keys : (n k b : ℕ) → ((j : ℕ) → length (setPartitions n j) ≡ stirlingOf n j) → length (flatMap (added n k) (keysInOrder b)) ≡ stirlingOf n k + b * stirlingOf n (suc k)
 unfolding othersIn
-counted-more n k earlier =
-    rw (by-key, length-flatMap, over-keys, sumOver-constant (range 1 (suc k)) (λ c. length (added n k c)) (stirlingOf n (suc k)) joined, length-range, each 0, stirling-rule)
+with-keys n k b earlier =
+    rw (length-flatMap, over-keys, sumOver-constant (range 1 b) (λ c. length (added n k c)) (stirlingOf n (suc k)) joined, length-range, each 0)
   where
     each : (c : ℕ) → length (added n k c) ≡ stirlingOf n (othersIn k c)
     each c = length-map (setPartitions n (othersIn k c)) (behind k c) ∙ earlier (othersIn k c)
 
-    joined : (c : ℕ) → List·Memᴰ c (range 1 (suc k)) → length (added n k c) ≡ stirlingOf n (suc k)
-    joined zero m = absurd (omega (arith, between 1 (suc k) m))
-    joined (suc b) m = each (suc b)
+    joined : (c : ℕ) → List·Memᴰ c (range 1 b) → length (added n k c) ≡ stirlingOf n (suc k)
+    joined zero m = absurd (omega (arith, between 1 b m))
+    joined (suc d) m = each (suc d)
 
 pub counted : (n k : ℕ) → length (setPartitions n k) ≡ stirlingOf n k
 unfolding setPartitions stirlingOf
 counted zero zero = refl
 counted zero (suc k) = refl
 counted (suc n) zero = refl
-counted (suc n) (suc k) = counted-more n k (counted n)
+counted (suc n) (suc k) = ap length (by-key n k) ∙ with-keys n k (suc k) (counted n)
+
+pub counted-keys : (n k b : ℕ) → length (flatMap (added n k) (keysInOrder b)) ≡ stirlingOf n k + b * stirlingOf n (suc k)
+counted-keys n k b = with-keys n k b (counted n)
+
+-- where there is a partition, there are no more blocks than models, and no block only for no model
+pub some-partition : (n k p : ℕ) {x : Bytes} → At (setPartitions n k) x p → (k ≤ n) × (k ≡ 0 → n ≡ 0)
+some-partition n k p a = (step (decLt n k), λ e. none e (decLt 0 n))
+  where
+    some : 0 < stirlingOf n k
+    some = omega (arith, at-below (setPartitions n k) p a, counted n k)
+
+    step : Dec (n < k) → k ≤ n
+    step (yes h) = absurd (omega (arith, some, stirling-none n k h))
+    step (no h) = omega arith
+
+    none : k ≡ 0 → Dec (0 < n) → n ≡ 0
+    none e (yes h) = absurd (omega (arith, some, ap (stirlingOf n) e, stirling-zero n h))
+    none e (no h) = omega arith
+
+pub no-partition : (n k : ℕ) → ((k ≤ n) × (k ≡ 0 → n ≡ 0) → ⊥) → setPartitions n k ≡ []
+no-partition n k unfit = empty (setPartitions n k) (λ x a. unfit (some-partition n k 0 a))
+  where
+    empty : (l : List Bytes) → ((x : Bytes) → At l x 0 → ⊥) → l ≡ []
+    empty [] absent = refl
+    empty (x ∷ l) absent = absurd (absent x refl)

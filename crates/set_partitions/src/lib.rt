@@ -1,1 +1,160 @@
-// Nothing runs here yet.
+// Kind 4: partitions of n models into k blocks, over lent byte slices. Called by `families`, which shows what each function requires. The
+// steps need no counts.
+ghost use mathlib.Core.Path.{_≡_};
+ghost use mathlib.Core.Bool.{true};
+ghost use Prim.Native.Nat.{_≤_, _<_, _^_};
+ghost use lib.ListN.{length};
+ghost use Rattle.counting.specs.Limits.{places};
+ghost use Rattle.counting.specs.Numbers.{stirlingOf};
+ghost use Rattle.listings.specs.Calls.{NEXT, PREVIOUS, Said, act};
+ghost use Rattle.listings.specs.Places.{At, First, Last, countBefore};
+ghost use Rattle.listings.specs.Steps.{stepAs};
+ghost use Rattle.set_partitions.specs.Objects.{isSetPartition, setPartitionBefore};
+ghost use Rattle.set_partitions.specs.Listing.{setPartitions};
+
+mod search;
+
+use listings::Step;
+use listings::fill_up;
+use listings::fill_with;
+use search::block_to_lower;
+use search::block_to_raise;
+use search::has_block;
+use search::ways;
+
+// Does the slice hold a partition of n models into k blocks?
+pub fn is_object(n: u64, k: u64, object: &[u8]) -> bool
+    ensures { λ r. ⌜ r ≡ isSetPartition n k (now (object .entry)) ⌝ }
+{
+    if object.len() as u64 != n {
+        return false;
+    }
+    let mut used: u64 = 0;
+    let mut i = 0;
+    while i < object.len() {
+        let b = object[i] as u64;
+        if b == 0 {
+            return false;
+        }
+        if used + 1 < b {
+            return false;
+        }
+        if used < b {
+            used = b;
+        }
+        i += 1;
+    }
+    used == k
+}
+
+// The earliest: all in block 1 but the last models, which open the others: 1, .., 1, 2, .., k.
+pub fn first(k: u64, object: &mut [u8])
+    requires { ⌜ length (now object) ≤ places ⌝ }
+    requires { ⌜ (k ≤ length (now object)) × (k ≡ 0 → length (now object) ≡ 0) ⌝ }
+    ensures { λ _. ⌜ First (setPartitions (length (now (object .entry))) k) (now (object .exit)) ⌝ }
+{
+    let at = object.len() - (k as usize);
+    fill_with(&mut object[..at], 1);
+    fill_up(&mut object[at..], 1);
+}
+
+// The latest: the first models open all blocks, and the others are in the last: 1, 2, .., k, k, .., k.
+pub fn last(k: u64, object: &mut [u8])
+    requires { ⌜ length (now object) ≤ places ⌝ }
+    requires { ⌜ (k ≤ length (now object)) × (k ≡ 0 → length (now object) ≡ 0) ⌝ }
+    ensures { λ _. ⌜ Last (setPartitions (length (now (object .entry))) k) (now (object .exit)) ⌝ }
+{
+    let at = k as usize;
+    fill_up(&mut object[..at], 1);
+    fill_with(&mut object[at..], k as u8);
+}
+
+// The first model whose key can go up does, and the models in front of it start over.
+pub fn next(k: u64, object: &mut [u8]) -> Step
+    requires { ⌜ length (now object) ≤ places ⌝ }
+    requires { ⌜ isSetPartition (length (now object)) k (now object) ≡ true ⌝ }
+    ensures { λ r. ⌜ _≡_ {A = Said} (stepAs r, now (object .exit)) (act NEXT setPartitionBefore (setPartitions (length (now (object .entry))) k) (now (object .entry))) ⌝ }
+{
+    let i = block_to_raise(object);
+    if i == object.len() {
+        return Step::End;
+    }
+    let used = object[i - 1];
+    let b = object[i];
+    if b < used {
+        object[i] = b + 1;
+        first(used as u64, &mut object[..i]);
+        return Step::Stepped;
+    }
+    object[i] = 1;
+    first(used as u64 + 1, &mut object[..i]);
+    Step::Stepped
+}
+
+// The first model whose key can go down does, and the models in front of it become the latest.
+pub fn previous(k: u64, object: &mut [u8]) -> Step
+    requires { ⌜ length (now object) ≤ places ⌝ }
+    requires { ⌜ isSetPartition (length (now object)) k (now object) ≡ true ⌝ }
+    ensures { λ r. ⌜ _≡_ {A = Said} (stepAs r, now (object .exit)) (act PREVIOUS setPartitionBefore (setPartitions (length (now (object .entry))) k) (now (object .entry))) ⌝ }
+{
+    let i = block_to_lower(object);
+    if i == object.len() {
+        return Step::End;
+    }
+    let used = object[i - 1];
+    let b = object[i];
+    if 1 < b {
+        object[i] = b - 1;
+        last(used as u64, &mut object[..i]);
+        return Step::Stepped;
+    }
+    object[i] = used;
+    last(used as u64 - 1, &mut object[..i]);
+    Step::Stepped
+}
+
+// Through the rank of the partition left when the last model is taken out.
+pub fn rank(k: u64, object: &[u8]) -> u64
+    requires { ⌜ length (now object) ≤ places ⌝ }
+    requires { ⌜ isSetPartition (length (now object)) k (now object) ≡ true ⌝ }
+    requires { ⌜ stirlingOf (length (now object)) k < 2 ^ 64 ⌝ }
+    ensures { λ r. ⌜ r ≡ countBefore setPartitionBefore (now (object .entry)) (setPartitions (length (now (object .entry))) k) ⌝ }
+{
+    let n = object.len();
+    if n == 0 {
+        return 0;
+    }
+    let end = n - 1;
+    let b = object[end];
+    let others = end as u64;
+    if !has_block(&object[..end], b) {
+        return rank(k - 1, &object[..end]);
+    }
+    let earlier = ways(others, k - 1) + (b as u64 - 1) * ways(others, k);
+    earlier + rank(k, &object[..end])
+}
+
+// The object of a rank: the key of the last model, and the partition of the others.
+pub fn unrank(k: u64, rank: u64, object: &mut [u8])
+    requires { ⌜ length (now object) ≤ places ⌝ }
+    requires { ⌜ stirlingOf (length (now object)) k < 2 ^ 64 ⌝ }
+    requires { ⌜ rank < stirlingOf (length (now object)) k ⌝ }
+    ensures { λ _. ⌜ At (setPartitions (length (now (object .entry))) k) (now (object .exit)) rank ⌝ }
+{
+    let n = object.len();
+    if n == 0 {
+        return;
+    }
+    let end = n - 1;
+    let others = end as u64;
+    let alone = ways(others, k - 1);
+    if rank < alone {
+        object[end] = k as u8;
+        unrank(k - 1, rank, &mut object[..end]);
+        return;
+    }
+    let joined = ways(others, k);
+    let rest = rank - alone;
+    object[end] = (rest / joined + 1) as u8;
+    unrank(k, rest % joined, &mut object[..end]);
+}

@@ -1,0 +1,102 @@
+// The searches behind the steps and ranks of integer partitions: each reads, and answers a place or a number.
+ghost use mathlib.Core.Path.{_≡_};
+ghost use Prim.Native.Nat.{ℕ, suc, _*_, _-_, _≤_, _<_};
+ghost use lib.ListN.{length, take, getD};
+ghost use Rattle.counting.specs.Limits.{places};
+ghost use Rattle.counting.specs.Sums.{total};
+ghost use Rattle.counting.specs.Numbers.{partsFrom};
+use counting::Count;
+use counting::partitions;
+
+pub fn wide(b: u8) -> u64
+    ensures { λ r. ⌜ r ≡ b ⌝ }
+{
+    b as u64
+}
+
+pub fn sum(parts: &[u8]) -> u64
+    requires { ⌜ total (now parts) ≤ places ⌝ }
+    ensures { λ r. ⌜ r ≡ total (now (parts .entry)) ⌝ }
+{
+    let mut s: u64 = 0;
+    let mut i = 0;
+    while i < parts.len() {
+        s += wide(parts[i]);
+        i += 1;
+    }
+    s
+}
+
+// The first place, from the second on, whose part can go up by one: the parts in front have one to give and stay at least as large; or the
+// length.
+pub fn part_to_raise(object: &[u8]) -> usize
+    requires { ⌜ (total (now object) ≤ places) × (length (now object) ≤ places) ⌝ }
+    ensures within { λ r. ⌜ r ≤ length (now (object .entry)) ⌝ }
+    ensures passed { λ r. ⌜ ((j : ℕ) → j < r → total (take j (now (object .entry))) ≤ j * suc (getD (now (object .entry)) j 0)) ⌝ }
+    ensures found { λ r. ⌜ (r < length (now (object .entry)) → r * suc (getD (now (object .entry)) r 0) < total (take r (now (object .entry)))) ⌝ }
+{
+    let mut s: u64 = 0;
+    let mut i = 0;
+    while i < object.len() {
+        let p = wide(object[i]);
+        if (i as u64) * (p + 1) < s {
+            return i;
+        }
+        s += p;
+        i += 1;
+    }
+    i
+}
+
+// The first place, from the second on, whose part is above the next (above the floor at the last place), or the length.
+pub fn part_to_lower(floor: u64, object: &[u8]) -> usize
+    ensures within { λ r. ⌜ r ≤ length (now (object .entry)) ⌝ }
+    ensures passed { λ r. ⌜ ((j : ℕ) → 0 < j → j < r → getD (now (object .entry)) j 0 ≤ getD (now (object .entry)) (suc j) floor) ⌝ }
+    ensures found { λ r. ⌜ (r < length (now (object .entry)) → (0 < r) × (getD (now (object .entry)) (suc r) floor < getD (now (object .entry)) r 0)) ⌝ }
+{
+    let k = object.len();
+    let mut i = 1;
+    while i < k {
+        let next = if i + 1 < k {
+            wide(object[i + 1])
+        } else {
+            floor
+        };
+        if next < wide(object[i]) {
+            return i;
+        }
+        i += 1;
+    }
+    k
+}
+
+// k parts of at least p with the sum n: shifted down by p - 1, so one read.
+pub fn at_least(p: u64, n: u64, k: u64) -> u64
+    requires { ⌜ (0 < p) × ((n ≤ places) × (k ≤ places)) ⌝ }
+    requires { ⌜ p ≤ 256 ⌝ }
+    ensures { λ r. ⌜ r ≡ partsFrom k p n ⌝ }
+{
+    let off = k * (p - 1);
+    if n < off {
+        return 0;
+    }
+    let Count::Exactly(v) = partitions(n - off, k) else {
+        return 0;
+    };
+    v
+}
+
+// The last part of the object of a rank: as many have a smaller one as fit into the rank.
+pub fn last_part(floor: u64, n: u64, k: u64, rank: u64) -> u64
+    requires { ⌜ (0 < floor) × ((n ≤ places) × ((0 < k) × (k ≤ places))) ⌝ }
+    requires { ⌜ rank < partsFrom k floor n ⌝ }
+    ensures { λ r. ⌜ (floor ≤ r) × (r ≤ n) ⌝ }
+    ensures { λ r. ⌜ (partsFrom k floor n - partsFrom k r n ≤ rank) × (rank < partsFrom k floor n - partsFrom k (suc r) n) ⌝ }
+{
+    let all = at_least(floor, n, k);
+    let mut p = floor;
+    while all - at_least(p + 1, n, k) <= rank {
+        p += 1;
+    }
+    p
+}

@@ -1,0 +1,76 @@
+// The searches behind the steps and ranks of set partitions: each reads, and answers a place or a number.
+ghost use mathlib.Core.Path.{_≡_};
+ghost use Prim.Native.Nat.{_≤_, _<_, _^_};
+ghost use Rattle.counting.specs.Limits.{places};
+ghost use Rattle.counting.specs.Numbers.{stirlingOf};
+ghost use Rattle.set_partitions.specs.Moves.{rises, sinks, Reached, uses};
+use counting::Count;
+use counting::stirling;
+
+// Can the key of a model in block b go up, behind as many models as its place says and the last of them in block `used`?
+fn can_rise(place: usize, used: u8, b: u8) -> bool
+    ensures { λ r. ⌜ r ≡ rises place used b ⌝ }
+{
+    b < used || (used < b && (used as usize) < place)
+}
+
+// Can it go down?
+fn can_sink(used: u8, b: u8) -> bool
+    ensures { λ r. ⌜ r ≡ sinks used b ⌝ }
+{
+    1 < used && b <= used
+}
+
+// The first place whose key can go up, or the length. In front of it stands the latest partition, 1, .., m, m, .., m: a block below m can
+// go up; a new block can become block 1, where the models in front are more than m.
+pub fn block_to_raise(object: &[u8]) -> usize
+    ensures { λ r. ⌜ Reached rises (now (object .entry)) r ⌝ }
+{
+    let mut i = 1;
+    while i < object.len() {
+        if can_rise(i, object[i - 1], object[i]) {
+            return i;
+        }
+        i += 1;
+    }
+    object.len()
+}
+
+// The first place whose key can go down, or the length. In front of it stands the earliest partition, 1, .., 1, 2, .., m, with m above 1.
+pub fn block_to_lower(object: &[u8]) -> usize
+    ensures { λ r. ⌜ Reached (λ _. sinks) (now (object .entry)) r ⌝ }
+{
+    let mut i = 1;
+    while i < object.len() {
+        if can_sink(object[i - 1], object[i]) {
+            return i;
+        }
+        i += 1;
+    }
+    object.len()
+}
+
+// Is one of these models in block b?
+pub fn has_block(object: &[u8], b: u8) -> bool
+    ensures { λ r. ⌜ r ≡ uses b (now (object .entry)) ⌝ }
+{
+    let mut i = 0;
+    while i < object.len() {
+        if object[i] == b {
+            return true;
+        }
+        i += 1;
+    }
+    false
+}
+
+// Partitions of n models into k blocks, where their number fits.
+pub fn ways(n: u64, k: u64) -> u64
+    requires { ⌜ (n ≤ places) × ((k ≤ places) × (stirlingOf n k < 2 ^ 64)) ⌝ }
+    ensures { λ r. ⌜ r ≡ stirlingOf n k ⌝ }
+{
+    let Count::Exactly(v) = stirling(n, k) else {
+        return 0;
+    };
+    v
+}
