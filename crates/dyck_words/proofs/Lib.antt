@@ -4,3 +4,12 @@ pub mod TreeOrder
 pub mod TreeLists
 pub mod Theorem
 pub mod Dictionary
+pub mod Passing
+pub mod RankLaws
+pub mod Cutting
+pub mod Closing
+pub mod TreeSteps
+pub mod Edges
+pub mod Lent
+pub mod StepParts
+pub mod WordSteps

@@ -2,3 +2,5 @@
 pub mod Objects
 pub mod Trees
 pub mod Listing
+pub mod Reading
+pub mod Moves
