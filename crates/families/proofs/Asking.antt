@@ -1,17 +1,17 @@
 -- What a call that passes its questions has been asked, and which calls pass: the table of questions as demand 3 needs it.
 -- Assumes nothing.
-use mathlib.Core.Path.{_≡_, refl, sym, _∙_, ap}
-use mathlib.Core.Bool.{Bool, true, false, cond, not, _||_, false≢true}
+use mathlib.Core.Path.{_≡_, refl, sym, _∙_}
+use mathlib.Core.Bool.{Bool, true, false, cond, false≢true}
 use mathlib.Core.Option.{Option, none, some, Option·some-ne-none}
 use mathlib.Core.List.{List, [], _∷_, _++_}
 use Prim.Native.Nat.{ℕ, _<_, _^_}
-use lib.Dec.{ltb, eqb}
+use lib.Dec.{eqb}
 use lib.ListN.{length}
 use borrow.Author.Tests.{ltb-true, eqb-true, lt-ltb, eq-eqb}
 use Rattle.listings.specs.Calls.{Call, COUNT, FIRST, LAST, NEXT, PREVIOUS, RANK, UNRANK, Question, orElse, firstNo}
 use Rattle.listings.proofs.Demand.{withBuffer, withObject, Asks}
 use Rattle.families.specs.declared.Family.{Family}
-use Rattle.families.specs.Table.{Lent, isKind, inTable, listsFit, objectLength}
+use Rattle.families.specs.Table.{Lent, objectLength}
 use Rattle.families.specs.Listing.{listing, countOf}
 use Rattle.families.specs.Questions.{asked, isIn, put, rankGiven, opening, closing, refusal}
 
@@ -37,18 +37,33 @@ passed q (p ∷ ps) e =
     let h = passed-first (p .yes?) (p .number) (firstNo ps) e in
     picked (eqb q (p .number)) (p .yes?) (yesTo q ps) (h .0) (passed q ps (h .1))
 
-or-else-append : (t : Bool) (q : ℕ) (a b : Option ℕ) → orElse t q a ≡ none → (a ≡ none → b ≡ none) → orElse t q b ≡ none
+passed-over : (t : Bool) (q : ℕ) (a : Option ℕ) {b d : Option ℕ} → orElse t q a ≡ none → (a ≡ none → b ≡ d) → orElse t q b ≡ d
+unfolding orElse
+passed-over true q a e h = h e
+passed-over false q a e h = absurd (Option·some-ne-none q e)
+
+or-else-append : (t : Bool) (q : ℕ) (a b : Option ℕ) {d : Option ℕ} → orElse t q a ≡ d → (a ≡ d → b ≡ d) → orElse t q b ≡ d
 unfolding orElse
 or-else-append true q a b e h = h e
 or-else-append false q a b e h = e
 
--- two tables one behind the other pass where both do
-pub both-pass : (l m : List Question) → firstNo l ≡ none → firstNo m ≡ none → firstNo (l ++ m) ≡ none
+-- of two tables one behind the other the second answers where the first passes
+pub after-pass : (l m : List Question) → firstNo l ≡ none → firstNo (l ++ m) ≡ firstNo m
 unfolding firstNo
-both-pass [] m e h = h
-both-pass (q ∷ qs) m e h = or-else-append (q .yes?) (q .number) (firstNo qs) (firstNo (qs ++ m)) e (λ e′. both-pass qs m e′ h)
+after-pass [] m e = refl
+after-pass (q ∷ qs) m e = passed-over (q .yes?) (q .number) (firstNo qs) e (λ e′. after-pass qs m e′)
 
--- the first of two tables passes where both together do
+-- and the first where it doesn't
+pub after-no : (l m : List Question) {q : ℕ} → firstNo l ≡ some q → firstNo (l ++ m) ≡ some q
+unfolding firstNo
+after-no [] m {q} e = absurd (Option·some-ne-none q (sym e))
+after-no (p ∷ ps) m e = or-else-append (p .yes?) (p .number) (firstNo ps) (firstNo (ps ++ m)) e (λ e′. after-no ps m e′)
+
+-- two tables pass where both do
+pub both-pass : (l m : List Question) → firstNo l ≡ none → firstNo m ≡ none → firstNo (l ++ m) ≡ none
+both-pass l m e h = after-pass l m e ∙ h
+
+-- the first passes where both together do
 pub left-passes : (l m : List Question) → firstNo (l ++ m) ≡ none → firstNo l ≡ none
 unfolding firstNo
 left-passes [] m e = refl
@@ -99,15 +114,20 @@ module _ (f : Family) (b : Lent) where
   pub asks-enough : Asks (refusal f b) (listing f b) (objectLength f b)
   asks-enough = record { sized = sized; reads = reads; some-first = some-first; some-last = some-last; below = below; alike = alike }
 
+  -- a call that says a number, or is handed one, has been asked whether the count fits
+  pub fits-asked : (c : Call) (size : ℕ) (holds : Bool) → isIn 5 (asked c) ≡ true → refusal f b c size holds ≡ none → countOf f b < 2 ^ 64
+  unfolding opening closing put
+  fits-asked c size holds put5 e = ltb-true (countOf f b) (2 ^ 64) (rw put5 at (asks 5 c size holds e))
+
   -- what RANK and UNRANK have been asked when they pass
   pub rank-asked : (size : ℕ) (holds : Bool) → refusal f b RANK size holds ≡ none → (firstNo (opening FIRST f b) ≡ none) × (countOf f b < 2 ^ 64)
   unfolding refusal opening closing put asked isIn
-  rank-asked size holds e = (left-passes (opening RANK f b) (closing RANK f b size holds) e, ltb-true (countOf f b) (2 ^ 64) (asks 5 RANK size holds e))
+  rank-asked size holds e = (left-passes (opening RANK f b) (closing RANK f b size holds) e, fits-asked RANK size holds refl e)
 
   pub unrank-asked : (r size : ℕ) (holds : Bool) → refusal f b (UNRANK r) size holds ≡ none → (firstNo (opening FIRST f b) ≡ none) × (countOf f b < 2 ^ 64)
   unfolding refusal opening closing put asked isIn
   unrank-asked r size holds e =
-      (left-passes (opening (UNRANK r) f b) (closing (UNRANK r) f b size holds) e, ltb-true (countOf f b) (2 ^ 64) (asks 5 (UNRANK r) size holds e))
+      (left-passes (opening (UNRANK r) f b) (closing (UNRANK r) f b size holds) e, fits-asked (UNRANK r) size holds refl e)
 
   -- which calls pass: where the questions about the family do and the buffer has the object's length
 

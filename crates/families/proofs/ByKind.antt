@@ -1,13 +1,13 @@
 -- Each kind's theorems, gathered by kind: the listing, its count and the objects' length.
 -- Assumes nothing.
-use mathlib.Core.Path.{_≡_, refl, _∙_}
+use mathlib.Core.Path.{_≡_, refl}
 use mathlib.Core.Bool.{Bool, true, false, false≢true}
 use mathlib.Core.List.{List, [], List·Memᴰ·not-nil}
-use Prim.Native.Nat.{ℕ, _*_}
+use Prim.Native.Nat.{ℕ}
 use lib.ListN.{length}
 use Rattle.counting.specs.Sums.{total}
 use Rattle.listings.specs.Bytes.{Bytes}
-use Rattle.listings.specs.Listings.{Listing, Ascending, StrictTotal}
+use Rattle.listings.specs.Listings.{Listing, Ascending}
 use Rattle.subsets.proofs.Theorem as subset-kind
 use Rattle.anagrams.proofs.Theorem as anagram-kind
 use Rattle.anagrams.proofs.PermutationTheorem.{permutations-listed, permutations-counted, permutation-long}

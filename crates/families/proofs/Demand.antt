@@ -1,14 +1,14 @@
 -- Demand 3 about the definitions: for any family, lists, bytes and list of calls, the calls are the marker; and what follows for whole walks.
 -- Assumes nothing.
-use mathlib.Core.Path.{_≡_, refl, sym, _∙_, ap}
+use mathlib.Core.Path.{_≡_, refl, _∙_, ap}
 use mathlib.Core.Bool.{true}
-use mathlib.Core.Option.{Option, none, some}
-use mathlib.Core.List.{List, [], _∷_, _++_, reverse}
+use mathlib.Core.Option.{none, some}
+use mathlib.Core.List.{List, _∷_, _++_, reverse}
 use Prim.Native.Nat.{ℕ, _≤_, _<_, _^_}
 use native.Mathlib.Omega.{arith}
 use lib.ListN.{length, getD, replicate}
 use Rattle.listings.specs.Bytes.{Bytes}
-use Rattle.listings.specs.Calls.{Call, FIRST, LAST, NEXT, PREVIOUS, RANK, UNRANK, RANKED, WRITTEN, Said, judged, act, firstNo, responses}
+use Rattle.listings.specs.Calls.{Call, FIRST, LAST, NEXT, PREVIOUS, RANK, UNRANK, RANKED, WRITTEN, Said, judged, act, firstNo}
 use Rattle.listings.specs.Runs.{untilEnd, bytesOf, finally, unranks}
 use Rattle.listings.proofs.Demand.{answering}
 use Rattle.listings.proofs.Demand as marks

@@ -1,8 +1,8 @@
 -- Which families have no object: exactly those that paper 01 names after its table, and what the table doesn't allow.
 -- Assumes nothing.
 use mathlib.Core.Path.{_≡_, refl, sym, _∙_, ap}
-use mathlib.Core.Bool.{Bool, true, false, _&&_, _||_}
-use mathlib.Core.List.{List, []}
+use mathlib.Core.Bool.{true, _&&_, _||_}
+use mathlib.Core.List.{List}
 use Prim.Native.Nat.{ℕ, zero, suc, _≤_, _<_}
 use native.Mathlib.Omega.{arith}
 use native.Mathlib.Decide.{decLe}
@@ -13,9 +13,9 @@ use borrow.Author.Tests.{lt-ltb, le-leb, lt-leb, ne-eqb}
 use Rattle.counting.proofs.Laws.{choose-none, choose-positive, multinomial-positive, multinomial-ones, stirling-corner, stirling-none, stirling-zero, stirling-positive, partitions-corner, partitions-none, partitions-zero, partitions-positive, catalan-positive}
 use Rattle.families.specs.declared.Family.{Family}
 use Rattle.families.specs.Table.{Lent, Kind, subset, anagram, permutation, setPartition, integerPartition, dyckWord, unknown, kindOf, allowed, hasObject}
-use Rattle.families.specs.Listing.{listing, countOf}
+use Rattle.families.specs.Listing.{countOf}
 use Rattle.families.specs.Numbers.{numberOf}
-use Rattle.families.proofs.Listings.{count-is, not-allowed}
+use Rattle.families.proofs.Listings.{count-is}
 
 -- a number that is positive within k ≤ n and where k is 0 only for n = 0, and 0 elsewhere
 triangle : (T : ℕ → ℕ → ℕ) → ((n k : ℕ) → n < k → T n k ≡ 0) → ((n : ℕ) → 0 < n → T n 0 ≡ 0) → T 0 0 ≡ 1 → ((n k : ℕ) → 0 < k → k ≤ n → 1 ≤ T n k) → (n k : ℕ) → ltb 0 (T n k) ≡ (leb k n && (ltb 0 k || eqb n 0))

@@ -1,21 +1,26 @@
 -- The listing of a family is the listing of its objects in its order, the only one, with the count and the ranks that the definitions say.
 -- Assumes nothing.
-use mathlib.Core.Path.{_≡_, refl, sym, _∙_, ap}
+use mathlib.Core.Path.{_≡_}
 use mathlib.Core.Bool.{Bool, true, false, _&&_, false≢true}
 use mathlib.Core.List.{List, []}
 use Prim.Native.Nat.{ℕ}
 use lib.ListN.{length}
+use lib.Dec.{leb, eqb}
+use Rattle.counting.specs.Limits.{places}
+use Rattle.counting.specs.Sums.{total}
 use Rattle.listings.specs.Bytes.{Bytes}
 use Rattle.listings.specs.Listings.{Listing, StrictTotal}
 use Rattle.listings.specs.Places.{At}
+use Rattle.listings.proofs.Bools.{and-true}
 use Rattle.listings.proofs.Uniqueness.{unique}
 use Rattle.listings.proofs.Ranks.{place-is-rank}
 use Rattle.listings.proofs.Demand.{Lawful}
 use Rattle.families.specs.declared.Family.{Family}
-use Rattle.families.specs.Table.{Lent, Kind, kindOf, allowed, objectLength, lengthOf}
-use Rattle.families.specs.Objects.{isObject, objectOf, comesBefore, orderOf}
-use Rattle.families.specs.Listing.{listing, listingOf, ifAllowed, countOf, rankOf}
+use Rattle.families.specs.Table.{Lent, Kind, anagram, kindOf, bounds, inTable, countsFit, listsFit, allowed, objectLength, lengthOf}
+use Rattle.families.specs.Objects.{isObject, objectOf, comesBefore}
+use Rattle.families.specs.Listing.{listing, ifAllowed, countOf, rankOf}
 use Rattle.families.specs.Numbers.{numberOf}
+use Rattle.families.proofs.TableFacts.{allowed-passes}
 use Rattle.families.proofs.ByKind.{empty-listed, kind-listed, kind-long, kind-counted}
 
 listed-if : (t : Bool) {object : Bytes → Bool} {lt : Bytes → Bytes → Bool} {l : List Bytes} → Listing object lt l → Listing (λ x. t && object x) lt (ifAllowed t l)
@@ -63,3 +68,22 @@ rank-is-place f b r h = place-is-rank (listed f b) r h
 pub count-is : (f : Family) (b : Lent) → allowed f b ≡ true → countOf f b ≡ numberOf (kindOf (f .kind)) (f .n) (f .k) (b .counts)
 unfolding countOf listing ifAllowed
 count-is f b e = rw e (kind-counted (kindOf (f .kind)) (f .n) (f .k) (b .counts))
+
+-- what is known of a family that the table allows, once its kind is
+
+pub record OfKind (f : Family) (b : Lent) (κ : Kind) : Type 0 where
+  pub bounded : bounds κ (f .n) (f .k) ≡ true
+  pub lists : countsFit κ (f .n) (b .counts) ≡ true
+  pub counted : countOf f b ≡ numberOf κ (f .n) (f .k) (b .counts)
+  pub long : objectLength f b ≡ lengthOf κ (f .n) (f .k) (b .counts)
+
+pub of-kind : (f : Family) (b : Lent) {κ : Kind} → kindOf (f .kind) ≡ κ → allowed f b ≡ true → OfKind f b κ
+unfolding inTable listsFit objectLength
+of-kind f b e h =
+    let a = allowed-passes f b h in
+    record { bounded = rw e at (a .bounded); lists = rw e at (a .lists); counted = rw e at (count-is f b h); long = rw e }
+
+-- the letters of an anagram are within the places
+pub letters-fit : {f : Family} {b : Lent} → OfKind f b anagram → leb (total (b .counts)) places ≡ true
+unfolding countsFit
+letters-fit {f} {b} a = and-true (eqb (length (b .counts)) (f .n)) (leb (total (b .counts)) places) (a .lists) .1

@@ -6,4 +6,5 @@ pub mod Numbers
 pub mod Questions
 pub mod Calls
 pub mod Marker
+pub mod Answers
 pub mod Cases

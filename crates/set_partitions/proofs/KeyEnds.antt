@@ -1,20 +1,20 @@
 -- What the first and the last partition are, and that their functions write them: first the front, and then the rest.
 -- Assumes nothing.
-use mathlib.Core.Path.{_≡_, refl, sym, _∙_, ap, subst, subst₂, ap₂}
+use mathlib.Core.Path.{_≡_, refl, sym, _∙_, ap, ap₂, subst, subst₂}
 use mathlib.Core.List.{[], _∷_, _++_, append-nil, append-assoc}
-use Prim.Native.Nat.{ℕ, zero, suc, _+_, _≤_, _-_}
+use Prim.Native.Nat.{ℕ, zero, suc, _+_, _-_, _≤_}
 use native.Mathlib.Nat.{zero-add, add-zero, suc-add, add-suc}
 use native.Mathlib.Numerals.{add-one}
 use native.Mathlib.Omega.{arith}
-use lib.ListN.{replicate, length, take, drop, length-replicate}
+use lib.ListN.{length, take, drop, replicate, length-replicate}
+use lib.Seq.{length-take-le}
+use borrow.Rule.Slice.PartMut.{midOf, putMid}
 use Rattle.counting.specs.Sums.{range}
 use Rattle.counting.proofs.Laws.{range-add, length-range}
 use Rattle.listings.specs.Bytes.{Bytes}
 use Rattle.listings.specs.Places.{First, Last}
 use Rattle.set_partitions.specs.Listing.{setPartitions}
 use Rattle.set_partitions.proofs.KeySteps.{first-alone, first-joined, last-alone, last-joined}
-use lib.Seq.{length-take-le}
-use borrow.Rule.Slice.PartMut.{midOf, putMid}
 use Rattle.set_partitions.proofs.Parts.{rest-lent, both-written}
 
 -- one more at the end of a run

@@ -23,8 +23,8 @@ use Rattle.set_partitions.specs.Listing.{setPartitions}
 use Rattle.set_partitions.specs.Moves.{uses}
 use Rattle.set_partitions.proofs.Facts.{partition-cases, partition-ends, othersIn, blockOf, take-off}
 use Rattle.set_partitions.proofs.Theorem.{counted, lists, some-partition}
-use Rattle.set_partitions.proofs.Parts.{rest-kept}
 use Rattle.set_partitions.proofs.KeySteps.{at-alone, at-joined}
+use Rattle.set_partitions.proofs.Parts.{rest-kept}
 use Rattle.set_partitions.proofs.Uses.{uses-small, uses-all}
 
 -- how many come before x

@@ -13,8 +13,8 @@ use Rattle.counting.specs.Numbers.{stirlingOf}
 use Rattle.counting.proofs.Laws.{length-range, between, stirling-none, stirling-zero}
 use Rattle.listings.specs.Bytes.{Bytes}
 use Rattle.listings.specs.Listings.{Ascending, none, more, Listing}
-use Rattle.listings.proofs.AscendingRules.{ascending-map, ascending-flatMap}
 use Rattle.listings.specs.Places.{At}
+use Rattle.listings.proofs.AscendingRules.{ascending-map, ascending-flatMap}
 use Rattle.listings.proofs.PlaceRules.{at-below}
 use Rattle.listings.proofs.Members.{flatMap-in, flatMap-of, length-flatMap}
 use Rattle.set_partitions.specs.Objects.{opens, isSetPartition, setPartitionBefore}
@@ -130,7 +130,7 @@ counted-keys n k b = with-keys n k b (counted n)
 
 -- where there is a partition, there are no more blocks than models, and no block only for no model
 pub some-partition : (n k p : ℕ) {x : Bytes} → At (setPartitions n k) x p → (k ≤ n) × (k ≡ 0 → n ≡ 0)
-some-partition n k p a = (step (decLt n k), λ e. none e (decLt 0 n))
+some-partition n k p a = (step (decLt n k), λ e. no-model e (decLt 0 n))
   where
     some : 0 < stirlingOf n k
     some = omega (arith, at-below (setPartitions n k) p a, counted n k)
@@ -139,9 +139,9 @@ some-partition n k p a = (step (decLt n k), λ e. none e (decLt 0 n))
     step (yes h) = absurd (omega (arith, some, stirling-none n k h))
     step (no h) = omega arith
 
-    none : k ≡ 0 → Dec (0 < n) → n ≡ 0
-    none e (yes h) = absurd (omega (arith, some, ap (stirlingOf n) e, stirling-zero n h))
-    none e (no h) = omega arith
+    no-model : k ≡ 0 → Dec (0 < n) → n ≡ 0
+    no-model e (yes h) = absurd (omega (arith, some, ap (stirlingOf n) e, stirling-zero n h))
+    no-model e (no h) = omega arith
 
 pub no-partition : (n k : ℕ) → ((k ≤ n) × (k ≡ 0 → n ≡ 0) → ⊥) → setPartitions n k ≡ []
 no-partition n k unfit = empty (setPartitions n k) (λ x a. unfit (some-partition n k 0 a))

@@ -1,16 +1,15 @@
 -- `set_partitions::rank` meets its contract: through the rank of the others, of which there is one fewer.
 -- Assumes nothing.
 use mathlib.Core.Path.{_≡_, sym, _∙_, ap}
-use Prim.Native.Nat.{_+_, _-_, _*_}
+use Prim.Native.Nat.{ℕ, _+_, _-_, _*_, _<_}
 use native.Mathlib.Omega.{arith}
 use lib.ListN.{length, take, getD}
 use borrow.Author.Needs.{needs}
 use borrow.Author.Tests.{not-true, not-false}
-use Rattle.listings.specs.Bytes.{Bytes}
-use Rattle.set_partitions.proofs.Ranking.{rankOf, Alone, Joined, others-long, ends-alone, ends-joined, none-before}
-use Prim.Native.Nat.{ℕ, _<_}
 use borrow.Fn.Kinds.{In}
 use borrow.Fn.PlainCycle.{Measures, is, falls, and}
+use Rattle.listings.specs.Bytes.{Bytes}
+use Rattle.set_partitions.proofs.Ranking.{rankOf, Alone, Joined, others-long, ends-alone, ends-joined, none-before}
 use Rattle.set_partitions.proofs.rank.Reads as rank
 use Rattle.set_partitions.proofs.rank.Kinds as rank-kinds
 use Rattle.set_partitions.proofs.+rank.Lts-rank as rank-lts

@@ -1,16 +1,15 @@
 -- `set_partitions::unrank` meets its contract: the last model by the rank, and the others by what is left of it.
 -- Assumes nothing.
 use mathlib.Core.Path.{_≡_, sym}
-use Prim.Native.Nat.{_+_, _-_, _/_}
+use Prim.Native.Nat.{ℕ, _-_, _/_, _<_}
 use native.Mathlib.Nat.{mod-lt}
 use native.Mathlib.Omega.{arith}
 use lib.ListN.{length, take, set, length-set}
+use borrow.Fn.Kinds.{In}
+use borrow.Fn.PlainCycle.{Measures, is, falls, and}
 use Rattle.listings.specs.Bytes.{Bytes}
 use Rattle.set_partitions.proofs.Parts.{front-long, same-long}
 use Rattle.set_partitions.proofs.Ranking.{none-at, Split, split-at-last, put-alone, some-joined, block-below, put-joined}
-use Prim.Native.Nat.{ℕ, _<_}
-use borrow.Fn.Kinds.{In}
-use borrow.Fn.PlainCycle.{Measures, is, falls, and}
 use Rattle.set_partitions.proofs.unrank.Reads as unrank
 use Rattle.set_partitions.proofs.unrank.Kinds as unrank-kinds
 use Rattle.set_partitions.proofs.+unrank.Lts-unrank as unrank-lts

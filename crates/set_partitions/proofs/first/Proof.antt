@@ -5,8 +5,8 @@ use Prim.Native.Nat.{_-_}
 use native.Mathlib.Omega.{arith}
 use lib.ListN.{length}
 use lib.Seq.{length-take-le}
-use Rattle.set_partitions.proofs.KeyEnds.{first-written}
 use borrow.Author.Needs.{needs}
+use Rattle.set_partitions.proofs.KeyEnds.{first-written}
 use Rattle.set_partitions.proofs.first.Statement.{statement}
 use Rattle.set_partitions.proofs.first.Tie as tie
 

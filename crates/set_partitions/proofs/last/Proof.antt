@@ -4,8 +4,8 @@ use mathlib.Core.Path.{sym}
 use native.Mathlib.Omega.{arith}
 use lib.ListN.{length-take}
 use lib.Seq.{length-take-le}
-use Rattle.set_partitions.proofs.KeyEnds.{last-written}
 use borrow.Author.Needs.{needs}
+use Rattle.set_partitions.proofs.KeyEnds.{last-written}
 use Rattle.set_partitions.proofs.last.Statement.{statement}
 use Rattle.set_partitions.proofs.last.Tie as tie
 

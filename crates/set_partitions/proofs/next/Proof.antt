@@ -2,16 +2,16 @@
 -- Assumes nothing.
 use mathlib.Core.Path.{_≡_, sym}
 use mathlib.Core.Bool.{true}
-use Prim.Native.Nat.{ℕ, _+_, _-_, _≤_, _<_}
+use Prim.Native.Nat.{ℕ, _-_, _≤_, _<_}
 use native.Mathlib.Omega.{arith}
 use lib.ListN.{length, getD}
+use borrow.Author.Needs.{needs}
 use Rattle.listings.proofs.Stepping.{next-steps, next-ends}
 use Rattle.set_partitions.specs.Objects.{opens}
 use Rattle.set_partitions.proofs.Facts.{partition-cases}
 use Rattle.set_partitions.proofs.Theorem.{lists}
 use Rattle.set_partitions.proofs.Parts.{front-long, same-long}
 use Rattle.set_partitions.proofs.KeyMoves.{none-rises, raise-blocks, raise-room, raise-joined, raise-alone}
-use borrow.Author.Needs.{needs}
 use Rattle.set_partitions.proofs.next.Statement.{statement}
 use Rattle.set_partitions.proofs.next.Tie as tie
 

@@ -5,13 +5,13 @@ use mathlib.Core.Bool.{true}
 use Prim.Native.Nat.{ℕ, _-_, _≤_, _<_}
 use native.Mathlib.Omega.{arith}
 use lib.ListN.{length, getD}
+use borrow.Author.Needs.{needs}
 use Rattle.listings.proofs.Stepping.{previous-steps, previous-ends}
 use Rattle.set_partitions.specs.Objects.{opens}
 use Rattle.set_partitions.proofs.Facts.{partition-cases}
 use Rattle.set_partitions.proofs.Theorem.{lists}
 use Rattle.set_partitions.proofs.Parts.{front-long, same-long}
 use Rattle.set_partitions.proofs.KeyMoves.{none-sinks, lower-blocks, lower-room, lower-joined, lower-alone}
-use borrow.Author.Needs.{needs}
 use Rattle.set_partitions.proofs.previous.Statement.{statement}
 use Rattle.set_partitions.proofs.previous.Tie as tie
 

@@ -1,0 +1,51 @@
+-- `families::first` meets its contract. FIRST has been asked for an object and the buffer's length, and what is written stands at the first place.
+-- Assumes nothing.
+use mathlib.Core.Path.{refl}
+use borrow.Author.Needs.{needs}
+use Rattle.listings.specs.Calls.{FIRST}
+use Rattle.families.specs.Listing.{countOf}
+use Rattle.families.proofs.Asking.{asks-enough}
+use Rattle.families.proofs.Verdicts.{verdict, admitted}
+use Rattle.families.proofs.Responses.{refused, writes-first}
+use Rattle.families.proofs.first.Statement.{statement}
+use Rattle.families.proofs.first.Tie as tie
+
+ask-requires : tie.Need-ask-requires
+ask-requires c κs = tt
+
+enum-known-q : tie.Need-enum-known-q
+enum-known-q c = search needs
+
+enum-told : tie.Need-enum-told
+enum-told c = search needs
+
+first-requires : tie.Need-first-requires
+unfolding countOf
+first-requires c κs =
+    let pass = verdict (c .before .before .before .ask .ensures) (c .before .enum-told .given .1) in
+    (admitted FIRST _ _ _ _ pass, (asks-enough _ _ .some-first _ _ pass, asks-enough _ _ .sized FIRST _ _ refl pass))
+
+same-length : tie.Need-same-length
+same-length c = search needs
+
+returns : tie.Need-returns
+returns c = writes-first _ _ _ (c .before .before .first .ensures) (verdict (c .before .before .before .before .before .before .ask .ensures) (c .before .before .before .before .enum-told .given .1))
+
+same-length-2 : tie.Need-same-length-2
+same-length-2 c = search needs
+
+returns-2 : tie.Need-returns-2
+returns-2 c = refused _ _ _ FIRST (verdict (c .before .before .before .ask .ensures) (c .before .q .given .1))
+
+pub first-spec : {M : Type 1} → statement M
+first-spec =
+    tie.close
+    (tie.spec
+    ask-requires
+    enum-known-q
+    enum-told
+    first-requires
+    same-length
+    returns
+    same-length-2
+    returns-2)

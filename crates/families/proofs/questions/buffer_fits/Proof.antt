@@ -1,0 +1,23 @@
+-- `families::questions::buffer_fits` meets its contract. A question that isn't put to a call counts as a yes.
+-- Assumes nothing.
+use mathlib.Core.Path.{sym}
+use borrow.Author.Needs.{needs}
+use Rattle.families.proofs.Verdicts.{is-no, is-yes, not-put, is-put}
+use Rattle.families.proofs.questions.buffer_fits.Statement.{statement}
+use Rattle.families.proofs.questions.buffer_fits.Tie as tie
+
+has-buffer-requires : tie.Need-has-buffer-requires
+has-buffer-requires c κs = tt
+
+returns : tie.Need-returns
+returns c = sym (not-put _ 6 _ (is-no (c .before .has-buffer .ensures .1) (c .if1 .taken)))
+
+object-length-requires : tie.Need-object-length-requires
+object-length-requires c κs = search needs
+
+returns-2 : tie.Need-returns-2
+returns-2 c = rw (c .object-length .ensures) (sym (is-put _ 6 _ (is-yes (c .before .before .has-buffer .ensures .1) (c .before .if1 .left))))
+
+pub buffer-fits-spec : {M : Type 1} → statement M
+buffer-fits-spec =
+    tie.close (tie.spec has-buffer-requires returns object-length-requires returns-2)

@@ -1,0 +1,66 @@
+-- A code is read by its number, a list of codes by its first, and a product by division.
+-- Assumes nothing.
+use mathlib.Core.Path.{_≡_, refl, sym, _∙_, ap}
+use mathlib.Core.Bool.{false}
+use mathlib.Core.List.{List}
+use mathlib.Core.Logic.{⊎-elim}
+use Prim.Native.Nat.{ℕ, zero, suc, _+_, _*_, _/_, _%_, _≤_, _<_}
+use native.Mathlib.Omega.{arith}
+use native.Mathlib.Nat.{mul-mod-left, mul-div-cancel, div-add-mod', suc-mul, mul-le-mul-right}
+use lib.Dec.{eqb}
+use lib.ListN.{length, getD, drop}
+use lib.Seq.{drop-cons}
+use borrow.Author.Tests.{eq-eqb, ne-eqb, eqb-true, eqb-false, le-leb, lt-leb}
+use Rattle.listings.specs.Bytes.{Bytes}
+use Rattle.listings.specs.Calls.{Call, FIRST, Answer, Said}
+use Rattle.listings.proofs.Bools.{true-or-false}
+use Rattle.families.specs.declared.Family.{Family}
+use Rattle.families.specs.Table.{Lent}
+use Rattle.families.specs.Calls.{respond}
+use Rattle.replay.specs.Codes.{callOf, known, answerCode}
+
+-- a code that is none of 2 to 5 is read as FIRST
+pub otherwise-first : (code r : ℕ) → (code ≡ 2 → ⊥) → (code ≡ 3 → ⊥) → (code ≡ 4 → ⊥) → (code ≡ 5 → ⊥) → callOf code r ≡ FIRST
+unfolding callOf
+otherwise-first zero r a b c d = refl
+otherwise-first (suc zero) r a b c d = refl
+otherwise-first (suc (suc zero)) r a b c d = absurd (a refl)
+otherwise-first (suc (suc (suc zero))) r a b c d = absurd (b refl)
+otherwise-first (suc (suc (suc (suc zero)))) r a b c d = absurd (c refl)
+otherwise-first (suc (suc (suc (suc (suc zero))))) r a b c d = absurd (d refl)
+otherwise-first (suc (suc (suc (suc (suc (suc n)))))) r a b c d = refl
+
+-- a call's equation, read as the code of its answer and the bytes that it left
+pub coded : {c call : Call} (f : Family) (b : Lent) (x : Bytes) {y : Bytes} (a : Answer) {code : ℕ} → c ≡ call → _≡_ {A = Said} (a, y) (respond call f b x) → code ≡ answerCode a
+    → (code ≡ answerCode (respond c f b x .0)) × (y ≡ respond c f b x .1)
+coded f b x a same said ec = rw same (ec ∙ ap (λ (s : Said). answerCode (s .0)) said, ap (λ (s : Said). s .1) said)
+
+-- whether the codes from the i-th on are known depends on the i-th
+module _ (cs : List ℕ) (i : ℕ) (inside : i < length cs) where
+  pub low : getD cs i 0 < 1 → known (drop i cs) ≡ false
+  unfolding known
+  low h = rw (drop-cons cs i 0 inside, lt-leb 1 (getD cs i 0) h)
+
+  pub high : 1 ≤ getD cs i 0 → 5 < getD cs i 0 → known (drop i cs) ≡ false
+  unfolding known
+  high l h = rw (drop-cons cs i 0 inside, le-leb 1 (getD cs i 0) l, lt-leb (getD cs i 0) 5 h)
+
+  pub known-on : 1 ≤ getD cs i 0 → getD cs i 0 ≤ 5 → known (drop i cs) ≡ known (drop (suc i) cs)
+  unfolding known
+  known-on l h = rw (drop-cons cs i 0 inside, le-leb 1 (getD cs i 0) l, le-leb (getD cs i 0) 5 h)
+
+-- one turn's part of a product is within it
+pub turn-within : (i n size : ℕ) → i < n → i * size + size ≤ n * size
+turn-within i n size h = rw suc-mul at (mul-le-mul-right {m = suc i} size h)
+
+-- what leaves a remainder is no product, and what leaves none is one if its quotient is the other factor
+pub remainder-none : (whole many size : ℕ) → (whole % size ≡ 0 → ⊥) → eqb whole (many * size) ≡ false
+remainder-none whole many size h = ne-eqb whole (many * size) (λ e. h (ap (λ (w : ℕ). w % size) e ∙ mul-mod-left many size))
+
+pub quotient-tells : (whole many size : ℕ) → 0 < size → whole % size ≡ 0 → eqb (whole / size) many ≡ eqb whole (many * size)
+quotient-tells whole many size pos none =
+    let back : whole / size * size ≡ whole = omega (arith, div-add-mod' whole size) in
+    ⊎-elim
+    (λ t. t ∙ sym (eq-eqb _ _ (sym back ∙ ap (λ (q : ℕ). q * size) (eqb-true _ _ t))))
+    (λ t. t ∙ sym (ne-eqb _ _ (λ e. eqb-false _ _ t (ap (λ (w : ℕ). w / size) e ∙ mul-div-cancel many pos))))
+    (true-or-false (eqb (whole / size) many))

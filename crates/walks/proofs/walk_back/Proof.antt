@@ -1,0 +1,74 @@
+-- `walk_back` is safe and ends: the steps left fall, and the buffer keeps its length.
+-- Assumes nothing.
+use native.Mathlib.Omega.{arith}
+use borrow.Author.Tests.{ltb-true}
+use borrow.Author.Needs.{needs}
+use mathlib.Core.Path.{_≡_}
+use lib.ListN.{length}
+use Rattle.walks.proofs.walk_back.Statement.{statement}
+use Rattle.walks.proofs.walk_back.Tie as tie
+
+abbrev Inv-loop : tie.InvT-loop
+Inv-loop f counts object₀ d₀ answer₀ left₀ object d answer left = length object ≡ length object₀
+
+abbrev μ-loop : tie.MeasureT-loop
+μ-loop f counts object₀ d₀ answer₀ left₀ object d answer left = left
+
+nothing-requires : tie.Need-nothing-requires Inv-loop μ-loop
+nothing-requires c κs = search needs
+
+last-requires : tie.Need-last-requires Inv-loop μ-loop
+last-requires c κs = search needs
+
+written-requires : tie.Need-written-requires Inv-loop μ-loop
+written-requires c κs = search needs
+
+loop-holds : tie.Need-loop-holds Inv-loop μ-loop
+loop-holds c = search needs
+
+with-object-requires : tie.Need-with-object-requires Inv-loop μ-loop
+with-object-requires c κs = search needs
+
+previous-requires : tie.Need-previous-requires Inv-loop μ-loop
+previous-requires c κs = search needs
+
+stepped-requires : tie.Need-stepped-requires Inv-loop μ-loop
+stepped-requires c κs = search needs
+
+sub-left : tie.Need-sub-left Inv-loop μ-loop
+sub-left c = search needs
+
+loop-less : tie.Need-loop-less Inv-loop μ-loop
+loop-less c = omega (arith, ltb-true)
+
+loop-again : tie.Need-loop-again Inv-loop μ-loop
+loop-again c = search needs
+
+number-requires : tie.Need-number-requires Inv-loop μ-loop
+number-requires c κs = search needs
+
+same-length : tie.Need-same-length Inv-loop μ-loop
+same-length c = search needs
+
+returns : tie.Need-returns Inv-loop μ-loop
+returns c = search needs
+
+pub walk-back-spec : {M : Type 1} → statement M
+walk-back-spec =
+    tie.close
+    (tie.spec
+    Inv-loop
+    μ-loop
+    nothing-requires
+    last-requires
+    written-requires
+    loop-holds
+    with-object-requires
+    previous-requires
+    stepped-requires
+    sub-left
+    loop-less
+    loop-again
+    number-requires
+    same-length
+    returns)
