@@ -1,0 +1,72 @@
+-- `slip::listing::put_bytes` meets its contract: after i turns the first i bytes stand in their columns.
+-- Assumes nothing.
+use borrow.Author.Needs.{needs}
+use mathlib.Core.Path.{_≡_, refl}
+use mathlib.Core.List.{flatMap}
+use Prim.Native.Nat.{_+_, _*_, _-_, _≤_}
+use native.Mathlib.Omega.{arith}
+use lib.ListN.{length, take}
+use lib.Seq.{take-all}
+use Rattle.slip.specs.Columns.{column}
+use Rattle.slip.specs.Writing.{Wrote}
+use Rattle.slip.proofs.Lines.{bytes-more}
+use Rattle.slip.proofs.Writes.{wrote-nothing, then}
+use Rattle.slip.proofs.listing.put_bytes.Statement.{statement}
+use Rattle.slip.proofs.listing.put_bytes.Tie as tie
+
+abbrev Inv-loop : tie.InvT-loop
+Inv-loop out₀ at object end₀ i₀ out end i =
+    (i ≤ length object) × ((length out ≡ length out₀) × ((end ≡ at + 4 * i) × Wrote out₀ at out end (flatMap (column 4) (take i object))))
+
+abbrev μ-loop : tie.MeasureT-loop
+μ-loop out₀ at object end₀ i₀ out end i = length object - i
+
+loop-holds : tie.Need-loop-holds Inv-loop μ-loop
+unfolding flatMap
+loop-holds c = (omega arith, (refl, (omega arith, wrote-nothing _ _)))
+
+shared-slice-read-put-column : tie.Need-shared-slice-read-put-column Inv-loop μ-loop
+shared-slice-read-put-column c = search needs
+
+cast-put-column : tie.Need-cast-put-column Inv-loop μ-loop
+cast-put-column c = omega (arith, c .shared-slice-known2 .given (c .before .before .before .loop .i))
+
+put-column-requires : tie.Need-put-column-requires Inv-loop μ-loop
+put-column-requires c κs = search needs
+
+add-i : tie.Need-add-i Inv-loop μ-loop
+add-i c = search needs
+
+loop-less : tie.Need-loop-less Inv-loop μ-loop
+loop-less c = search needs
+
+loop-again : tie.Need-loop-again Inv-loop μ-loop
+loop-again c =
+    let l = c .before .before .before .before .before .before .loop in
+    let x = c .before .before .before .before .before .before .before .before .before .args .object .now in
+    (omega arith, (search needs, (omega arith, rw (bytes-more (column 4) x (l .i) (omega arith)) (then (l .inv .1 .1 .1) (c .before .before .put-column .ensures .1)))))
+
+same-length : tie.Need-same-length Inv-loop μ-loop
+same-length c = search needs
+
+returns : tie.Need-returns Inv-loop μ-loop
+returns c =
+    let l = c .before .loop in
+    let x = c .before .before .before .before .args .object .now in
+    (omega arith, rw (take-all (l .i) x (omega arith)) at (l .inv .1 .1 .1))
+
+pub put-bytes-spec : {M : Type 1} → statement M
+put-bytes-spec =
+    tie.close
+    (tie.spec
+    Inv-loop
+    μ-loop
+    loop-holds
+    shared-slice-read-put-column
+    cast-put-column
+    put-column-requires
+    add-i
+    loop-less
+    loop-again
+    same-length
+    returns)

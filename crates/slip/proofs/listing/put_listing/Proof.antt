@@ -1,0 +1,63 @@
+-- `slip::listing::put_listing` meets its contract: FIRST writes the object at place 0, or there is none and END is all.
+-- Assumes nothing.
+use Rattle.families.specs.Table.{lent}
+use Rattle.families.specs.Listing.{listing}
+use Rattle.slip.proofs.Lines.{nothing-listed}
+use Rattle.slip.proofs.Listed.{not-written, starts, starts-none}
+use borrow.Author.Needs.{needs}
+use Rattle.slip.proofs.listing.put_listing.Statement.{statement}
+use Rattle.slip.proofs.listing.put_listing.Tie as tie
+
+first-requires : tie.Need-first-requires
+first-requires c κs = search needs
+
+enum-told : tie.Need-enum-told
+enum-told c = search needs
+
+enum-told-2 : tie.Need-enum-told-2
+enum-told-2 c = search needs
+
+put-end-requires : tie.Need-put-end-requires
+put-end-requires c κs = search needs
+
+same-length : tie.Need-same-length
+same-length c = search needs
+
+same-length-2 : tie.Need-same-length-2
+same-length-2 c = search needs
+
+returns : tie.Need-returns
+returns c =
+    let a = c .before .before .before .before .before .before .before .before .before .before .before .before .before .args in
+    let b = lent (a .counts .now) in
+    nothing-listed (listing (a .f) b) (starts-none (a .f) b (a .object .now) (c .before .before .before .before .before .before .before .before .before .before .before .before .before .pre .1 .1 .1) (c .before .before .before .before .before .before .before .before .before .before .before .before .before .pre .1 .1 .0) not-written (rw (c .before .before .before .before .enum-told2 .given .1) at (c .before .before .before .before .before .before .before .before .first .ensures))) (c .before .before .put-end .ensures)
+
+put-objects-requires : tie.Need-put-objects-requires
+put-objects-requires c κs =
+    let a = c .before .before .before .before .before .before .before .before .before .before .before .args in
+    (search needs, (search needs, starts (a .f) (lent (a .counts .now)) (a .object .now) (rw (c .before .before .enum-told .given .1) at (c .before .before .before .before .before .before .first .ensures))))
+
+same-length-3 : tie.Need-same-length-3
+same-length-3 c = search needs
+
+same-length-4 : tie.Need-same-length-4
+same-length-4 c = search needs
+
+returns-2 : tie.Need-returns-2
+returns-2 c = search needs
+
+pub put-listing-spec : {M : Type 1} → statement M
+put-listing-spec =
+    tie.close
+    (tie.spec
+    first-requires
+    enum-told
+    enum-told-2
+    put-end-requires
+    same-length
+    same-length-2
+    returns
+    put-objects-requires
+    same-length-3
+    same-length-4
+    returns-2)

@@ -1,0 +1,55 @@
+-- `slip::listing::put_uncounted` meets its contract: the first line with MANY, and the body, or the refusal.
+-- Assumes nothing.
+use borrow.Author.Tests.{eq-eqb, ne-eqb}
+use Rattle.slip.specs.Text.{manyOr}
+use Rattle.slip.proofs.Lines.{headed}
+use borrow.Author.Needs.{needs}
+use Rattle.slip.proofs.listing.put_uncounted.Statement.{statement}
+use Rattle.slip.proofs.listing.put_uncounted.Tie as tie
+
+put-refused-requires : tie.Need-put-refused-requires
+put-refused-requires c κs = search needs
+
+same-length : tie.Need-same-length
+same-length c = search needs
+
+returns : tie.Need-returns
+unfolding manyOr
+returns c = rw (ne-eqb (c .before .before .before .before .before .before .before .args .q) 5 (c .before .before .before .before .if1 .taken)) (c .before .before .put-refused .ensures)
+
+put-family-requires : tie.Need-put-family-requires
+put-family-requires c κs = search needs
+
+slice-aggregate-put-justified : tie.Need-slice-aggregate-put-justified
+slice-aggregate-put-justified c = search needs
+
+put-justified-requires : tie.Need-put-justified-requires
+put-justified-requires c κs = search needs
+
+put-byte-requires : tie.Need-put-byte-requires
+put-byte-requires c κs = search needs
+
+put-body-requires : tie.Need-put-body-requires
+put-body-requires c κs = (search needs, c .before .before .before .before .before .before .before .before .before .before .before .before .before .before .before .before .before .pre .1 (c .before .before .before .before .before .before .before .before .before .before .before .before .before .before .if1 .left))
+
+same-length-2 : tie.Need-same-length-2
+same-length-2 c = search needs
+
+returns-2 : tie.Need-returns-2
+unfolding manyOr
+returns-2 c = rw (eq-eqb (c .before .before .before .before .before .before .before .before .before .before .before .before .before .before .before .before .before .before .before .before .args .q) 5 (c .before .before .before .before .before .before .before .before .before .before .before .before .before .before .before .before .before .if1 .left)) (headed (c .before .before .before .before .before .before .before .before .before .before .before .before .before .before .before .before .before .before .before .before .args .f) (c .before .before .before .before .before .before .before .before .before .before .before .before .before .before .before .put-family .ensures .1) (c .before .before .before .before .before .before .before .before .before .before .put-justified .ensures .1) (c .before .before .before .before .before .before .put-byte .ensures .1) (c .before .before .put-body .ensures))
+
+pub put-uncounted-spec : {M : Type 1} → statement M
+put-uncounted-spec =
+    tie.close
+    (tie.spec
+    put-refused-requires
+    same-length
+    returns
+    put-family-requires
+    slice-aggregate-put-justified
+    put-justified-requires
+    put-byte-requires
+    put-body-requires
+    same-length-2
+    returns-2)

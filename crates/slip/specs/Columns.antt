@@ -1,0 +1,28 @@
+-- Numbers and words in columns, right-justified with blanks, as bytes of ASCII.
+-- Assumes nothing.
+use mathlib.Core.Bool.{Bool, true, false}
+use mathlib.Core.List.{List, [], _∷_, _++_}
+use Prim.Native.Nat.{ℕ, zero, suc, _+_, _-_, _/_, _%_}
+use lib.Dec.{eqb}
+use lib.ListN.{length, replicate}
+use Rattle.listings.specs.Bytes.{Bytes}
+
+abbrev pub blank : ℕ
+blank = 32
+
+abbrev pub newline : ℕ
+newline = 10
+
+-- blanks where no digit is left
+unfoldable pub front : Bool → ℕ → Bytes → Bytes
+front true w s = replicate w blank
+front false w s = s
+
+-- "right-justified with blanks in 4 columns", "in 20 columns": a number's last w digits, without leading zeros
+unfoldable pub column : ℕ → ℕ → Bytes
+column zero n = []
+column (suc w) n = front (eqb (n / 10) 0) w (column w (n / 10)) ++ ((48 + n % 10) ∷ [])
+
+-- "the line END, right-justified in 20 columns"
+unfoldable pub justified : ℕ → Bytes → Bytes
+justified w s = replicate (w - length s) blank ++ s

@@ -1,0 +1,8 @@
+-- What a reader must believe of the program's text: columns, the slip's grammar, and everything that is printed.
+-- Writing and Reading serve the contracts of private functions only.
+pub mod Columns
+pub mod Grammar
+pub mod Text
+pub mod Writing
+pub mod Reading
+pub mod Rendering
