@@ -1,0 +1,45 @@
+/* A number for an arrangement, the arrangement for a number, one step on and back. Build and run: examples/c/run */
+#include <inttypes.h>
+#include <stdio.h>
+#include <string.h>
+
+#include "arrangements.h"
+
+static void show(const char *what, const uint8_t *object, size_t len)
+{
+    printf("%-34s", what);
+    for (size_t i = 0; i < len; i++)
+        printf(" %d", object[i]);
+    printf("\n");
+}
+
+int main(void)
+{
+    /* A tree with two of model 1, three of model 2 and two of model 3, hung in this order. */
+    const uint8_t counts[3] = {2, 3, 2};
+    uint8_t tree[7] = {1, 2, 2, 3, 1, 3, 2};
+    uint64_t all = 0, number = 0;
+
+    if (arrangement_count(2, 3, 0, counts, 3, &all) != ARRANGEMENT_DONE)
+        return 1;
+    if (arrangement_rank(2, 3, 0, counts, 3, tree, 7, &number) != ARRANGEMENT_DONE)
+        return 1;
+    show("the tree", tree, 7);
+    printf("its number, of %" PRIu64 ":                %" PRIu64 "\n", all, number);
+
+    memset(tree, 0, sizeof tree);
+    if (arrangement_unrank(2, 3, 0, counts, 3, number, tree, 7) != ARRANGEMENT_DONE)
+        return 1;
+    show("the tree for that number", tree, 7);
+    if (arrangement_next(2, 3, 0, counts, 3, tree, 7) != ARRANGEMENT_DONE)
+        return 1;
+    show("one step on", tree, 7);
+    if (arrangement_previous(2, 3, 0, counts, 3, tree, 7) != ARRANGEMENT_DONE)
+        return 1;
+    show("and back", tree, 7);
+
+    /* A number that no arrangement has is refused by question 8, and the tree stays. */
+    uint32_t code = arrangement_unrank(2, 3, 0, counts, 3, all, tree, 7);
+    printf("number %" PRIu64 " is refused by question %" PRIu32 "\n", all, code);
+    return code == 8 ? 0 : 1;
+}

@@ -1,0 +1,337 @@
+//! An independent implementation of the families: objects by the table's words, order by a comparison, numbers by counting extensions in
+//! 128-bit arithmetic that stops at 2^100. It shares no code with the library: it has no steps, only ranks, so that a neighbour is the object
+//! whose rank differs by one.
+
+use std::cmp::Ordering;
+
+/// Large enough to stand for "2^64 or more" without overflow on the way.
+const CAP: u128 = 1 << 100;
+
+fn add(a: u128, b: u128) -> u128 {
+    (a + b).min(CAP)
+}
+
+fn mul(a: u128, b: u128) -> u128 {
+    a.checked_mul(b).map_or(CAP, |v| v.min(CAP))
+}
+
+pub struct Tables {
+    choose: Vec<Vec<u128>>,
+    blocks: Vec<Vec<u128>>,
+    /// parts[k][f][n]: k parts, each at least f, with the sum n
+    parts: Vec<Vec<Vec<u128>>>,
+    catalan: Vec<u128>,
+}
+
+impl Tables {
+    pub fn new() -> Self {
+        let mut choose = vec![vec![0u128; 82]; 82];
+        let mut blocks = vec![vec![0u128; 82]; 82];
+        for n in 0..82 {
+            for k in 0..=n {
+                choose[n][k] = if k == 0 || k == n { 1 } else { add(choose[n - 1][k - 1], choose[n - 1][k]) };
+                blocks[n][k] = if n == k { 1 } else if k == 0 { 0 } else { add(blocks[n - 1][k - 1], mul(k as u128, blocks[n - 1][k])) };
+            }
+        }
+        let mut parts = vec![vec![vec![0u128; 82]; 83]; 82];
+        for f in 0..83 {
+            parts[0][f][0] = 1;
+        }
+        for k in 1..82 {
+            for f in (1..82).rev() {
+                for n in 0..82 {
+                    let with = if f <= n { parts[k - 1][f][n - f] } else { 0 };
+                    parts[k][f][n] = add(with, parts[k][f + 1][n]);
+                }
+            }
+        }
+        let mut catalan = vec![1u128; 42];
+        for n in 1..42 {
+            catalan[n] = (0..n).fold(0, |s, j| add(s, mul(catalan[j], catalan[n - 1 - j])));
+        }
+        Tables { choose, blocks, parts, catalan }
+    }
+
+    fn words(&self, counts: &[usize]) -> u128 {
+        let mut sum = 0;
+        let mut v = 1;
+        for &c in counts {
+            sum += c;
+            v = mul(v, self.choose[sum][c]);
+        }
+        v
+    }
+}
+
+#[derive(Clone, Debug)]
+pub struct Kind {
+    pub kind: u64,
+    pub n: u64,
+    pub k: u64,
+    pub counts: Vec<u8>,
+}
+
+impl Kind {
+    fn letters(&self) -> Vec<usize> {
+        if self.kind == 3 { vec![1; self.n as usize] } else { self.counts.iter().map(|&c| c as usize).collect() }
+    }
+
+    /// Questions 1 to 3.
+    fn table(&self) -> u32 {
+        let (n, k) = (self.n, self.k);
+        let sum: u64 = self.counts.iter().map(|&c| c as u64).sum();
+        match self.kind {
+            1 | 4 | 5 if n > 80 || k > 80 => 2,
+            2 | 3 if n > 80 || k != 0 => 2,
+            6 if n > 40 || k != 0 => 2,
+            2 if self.counts.len() as u64 != n || sum > 80 => 3,
+            2 => 0,
+            1 | 3..=6 if !self.counts.is_empty() => 3,
+            1 | 3..=6 => 0,
+            _ => 1,
+        }
+    }
+
+    pub fn length(&self) -> usize {
+        match self.kind {
+            1 | 5 => self.k as usize,
+            2 => self.letters().iter().sum(),
+            3 | 4 => self.n as usize,
+            _ => 2 * self.n as usize,
+        }
+    }
+
+    pub fn count(&self, t: &Tables) -> u128 {
+        let (n, k) = (self.n as usize, self.k as usize);
+        match self.kind {
+            1 => t.choose[n][k],
+            2 | 3 => t.words(&self.letters()),
+            4 => t.blocks[n][k],
+            5 => t.parts[k][1][n],
+            _ => t.catalan[n],
+        }
+    }
+
+    pub fn holds(&self, x: &[u8]) -> bool {
+        if x.len() != self.length() {
+            return false;
+        }
+        match self.kind {
+            1 => x.iter().all(|&a| a >= 1 && a as u64 <= self.n) && x.windows(2).all(|w| w[0] < w[1]),
+            2 | 3 => self.letters().iter().enumerate().all(|(i, &c)| x.iter().filter(|&&a| a as usize == i + 1).count() == c),
+            4 => {
+                let k = self.k as usize;
+                let firsts: Vec<_> = (1..=k).map(|b| x.iter().position(|&a| a as usize == b)).collect();
+                x.iter().all(|&a| a >= 1 && a as usize <= k) && firsts.iter().all(|p| p.is_some()) && firsts.windows(2).all(|w| w[0] < w[1])
+            }
+            5 => x.iter().all(|&a| a >= 1) && x.windows(2).all(|w| w[0] >= w[1]) && x.iter().map(|&a| a as u64).sum::<u64>() == self.n,
+            _ => {
+                let mut height = 0i64;
+                x.iter().all(|&a| {
+                    height += if a == 1 { 1 } else { -1 };
+                    a <= 1 && height >= 0
+                }) && height == 0
+            }
+        }
+    }
+
+    /// The object of a rank, by counting the objects that share what is already fixed.
+    pub fn unrank(&self, t: &Tables, rank: u128) -> Vec<u8> {
+        let mut r = rank;
+        let (mut n, mut k) = (self.n as usize, self.k as usize);
+        let mut x = Vec::new();
+        match self.kind {
+            1 => {
+                while k > 0 {
+                    let mut top = k;
+                    while r >= t.choose[top - 1][k - 1] {
+                        r -= t.choose[top - 1][k - 1];
+                        top += 1;
+                    }
+                    x.insert(0, top as u8);
+                    k -= 1;
+                }
+            }
+            2 | 3 => {
+                let mut left = self.letters();
+                for _ in 0..self.length() {
+                    for i in 0..left.len() {
+                        if left[i] == 0 {
+                            continue;
+                        }
+                        left[i] -= 1;
+                        let c = t.words(&left);
+                        if r < c {
+                            x.push(i as u8 + 1);
+                            break;
+                        }
+                        r -= c;
+                        left[i] += 1;
+                    }
+                }
+            }
+            4 => {
+                while n > 0 {
+                    let alone = if k == 0 { 0 } else { t.blocks[n - 1][k - 1] };
+                    if r < alone {
+                        x.insert(0, k as u8);
+                        k -= 1;
+                    } else {
+                        r -= alone;
+                        let mut b = 1;
+                        while r >= t.blocks[n - 1][k] {
+                            r -= t.blocks[n - 1][k];
+                            b += 1;
+                        }
+                        x.insert(0, b);
+                    }
+                    n -= 1;
+                }
+            }
+            5 => {
+                let mut p = 1;
+                while k > 0 {
+                    while r >= t.parts[k - 1][p][n - p] {
+                        r -= t.parts[k - 1][p][n - p];
+                        p += 1;
+                    }
+                    x.insert(0, p as u8);
+                    n -= p;
+                    k -= 1;
+                }
+            }
+            _ => x = dyck(t, n, r),
+        }
+        x
+    }
+
+    /// How many objects come before x, the same way.
+    pub fn rank(&self, t: &Tables, x: &[u8]) -> u128 {
+        match self.kind {
+            1 => x.iter().enumerate().fold(0, |s, (i, &a)| add(s, t.choose[a as usize - 1][i + 1])),
+            2 | 3 => {
+                let mut left = self.letters();
+                let mut r = 0;
+                for &a in x {
+                    for i in 0..a as usize - 1 {
+                        if left[i] > 0 {
+                            left[i] -= 1;
+                            r = add(r, t.words(&left));
+                            left[i] += 1;
+                        }
+                    }
+                    left[a as usize - 1] -= 1;
+                }
+                r
+            }
+            4 => {
+                let (mut r, mut k) = (0, self.k as usize);
+                for i in (0..x.len()).rev() {
+                    if x[..i].contains(&x[i]) {
+                        r = add(r, add(t.blocks[i][k - 1], mul(x[i] as u128 - 1, t.blocks[i][k])));
+                    } else {
+                        k -= 1;
+                    }
+                }
+                r
+            }
+            5 => {
+                let (mut r, mut n, mut f) = (0, self.n as usize, 1);
+                for i in (0..x.len()).rev() {
+                    for p in f..x[i] as usize {
+                        r = add(r, if p <= n { t.parts[i][p][n - p] } else { 0 });
+                    }
+                    f = x[i] as usize;
+                    n -= f;
+                }
+                r
+            }
+            _ => dyck_rank(t, x),
+        }
+    }
+
+    fn keys(x: &[u8]) -> Vec<u8> {
+        x.iter().enumerate().map(|(i, b)| if x[..i].contains(b) { *b } else { 0 }).collect()
+    }
+
+    /// "Which of two objects comes first".
+    pub fn order(&self, x: &[u8], y: &[u8]) -> Ordering {
+        match self.kind {
+            1 | 5 => x.iter().rev().cmp(y.iter().rev()),
+            2 | 3 => x.cmp(y),
+            4 => Self::keys(x).iter().rev().cmp(Self::keys(y).iter().rev()),
+            _ => dyck_order(x, y),
+        }
+    }
+}
+
+fn split(x: &[u8]) -> (&[u8], &[u8]) {
+    let mut height = 0;
+    for (i, &a) in x.iter().enumerate() {
+        height += if a == 1 { 1 } else { -1 };
+        if height == 0 {
+            return (&x[1..i], &x[i + 1..]);
+        }
+    }
+    unreachable!()
+}
+
+fn dyck_order(x: &[u8], y: &[u8]) -> Ordering {
+    if x.is_empty() || y.is_empty() {
+        return Ordering::Equal;
+    }
+    let ((i, r), (j, s)) = (split(x), split(y));
+    i.len().cmp(&j.len()).then_with(|| dyck_order(i, j)).then_with(|| dyck_order(r, s))
+}
+
+fn dyck(t: &Tables, n: usize, rank: u128) -> Vec<u8> {
+    if n == 0 {
+        return vec![];
+    }
+    let (mut r, mut j) = (rank, 0);
+    while r >= mul(t.catalan[j], t.catalan[n - 1 - j]) {
+        r -= mul(t.catalan[j], t.catalan[n - 1 - j]);
+        j += 1;
+    }
+    let rests = t.catalan[n - 1 - j];
+    let mut x = vec![1];
+    x.extend(dyck(t, j, r / rests));
+    x.push(0);
+    x.extend(dyck(t, n - 1 - j, r % rests));
+    x
+}
+
+fn dyck_rank(t: &Tables, x: &[u8]) -> u128 {
+    if x.is_empty() {
+        return 0;
+    }
+    let (i, r) = split(x);
+    let (n, j) = (x.len() / 2, i.len() / 2);
+    let before = (0..j).fold(0, |s, l| add(s, mul(t.catalan[l], t.catalan[n - 1 - l])));
+    add(before, add(mul(dyck_rank(t, i), t.catalan[n - 1 - j]), dyck_rank(t, r)))
+}
+
+/// What a call answers: a code as the library's, and a value for COUNT and RANK.
+pub fn refusal(t: &Tables, f: &Kind, call: &str, x: &[u8], rank: u64) -> u32 {
+    let q = f.table();
+    if q != 0 {
+        return q;
+    }
+    let count = f.count(t);
+    if call != "COUNT" && count == 0 {
+        return 4;
+    }
+    if ["COUNT", "RANK", "UNRANK"].contains(&call) && count >= 1 << 64 {
+        return 5;
+    }
+    if call != "COUNT" && x.len() != f.length() {
+        return 6;
+    }
+    if ["RANK", "NEXT", "PREVIOUS"].contains(&call) && !f.holds(x) {
+        return 7;
+    }
+    if call == "UNRANK" && rank as u128 >= count {
+        return 8;
+    }
+    0
+}
