@@ -1,8 +1,8 @@
 // Renders many slips, the files that its arguments name: for each the name, the length of the text and a digest of it, and the text itself
 // where it is short.
 //
-// The slips in data/ and the expected text, `stdout`, were made by a Python program of its own, which shares nothing with this library: its
-// listings are byte strings filtered by the table's words and sorted by a comparison, its texts are Python's formatting.
+// The slips in data/ and the expected text, `stdout`, were made by a Python program of its own, with Python's formatting. Its listings of at
+// most 100 objects of 8 bytes are strings filtered by the table's words and sorted by a comparison; longer ones follow Loehr's recursion.
 ghost use mathlib.Core.Path.{_≡_};
 ghost use Prim.Native.Nat.{_≤_};
 ghost use lib.ListN.{length};

@@ -1,8 +1,9 @@
 // Drives the public calls over many small families of all six kinds, forward, back, and by rank; then over refusals of every number; then
 // over families at both edges of 2^64 and at 80 places.
 //
-// The expected text, `stdout`, was made by a Python program of its own that shares nothing with this library: it filters all byte strings
-// by the table's words, sorts them by a comparison written from "Which of two objects comes first", and counts by its own recursions.
+// The expected text, `stdout`, was made by a Python program of its own. Small families: strings filtered by the table's words and sorted by a
+// comparison written from "Which of two objects comes first". Refusals and large families: objects by rank, counted place by place as Loehr
+// does, a step being the rank one up or down; so there the order rests on the same recursion as our listings.
 
 ghost use Prim.Native.Nat.{_≤_};
 ghost use lib.ListN.{length};
