@@ -1,6 +1,6 @@
 -- The counts of partitions: taking one off each part, the rule by the last part, and what grows and vanishes.
 -- Assumes nothing.
-use mathlib.Core.Path.{_≡_, refl, _∙_, ap}
+use mathlib.Core.Path.{_≡_, refl, sym, _∙_, ap, ap₂}
 use mathlib.Core.List.{List·Memᴰ}
 use Prim.Native.Nat.{ℕ, zero, suc, _+_, _-_, _*_, _≤_, _<_}
 use native.Mathlib.Nat.{add-zero, mul-zero, mul-suc, suc-mul, mul-one, sub-self, sub-zero, mul-le-mul-left}
@@ -107,3 +107,25 @@ partitions-positive n zero pos le = absurd (omega arith)
 partitions-positive n (suc zero) pos le = omega (arith, nothing n, rw sub-self at (last-part-le 0 1 n n le (omega arith)))
 partitions-positive n (suc (suc k)) pos le =
     omega (arith, partitions-positive (n - 1) (suc k) (omega arith) (omega arith), last-part-le (suc k) 1 n 1 (omega arith) (omega arith))
+
+-- with at least as many parts as are left when each has given one, it makes no difference how many there are
+
+more-parts : (m d : ℕ) → partitionsOf (m + (m + d)) (m + d) ≡ partitionsOf (m + m) m
+more-parts m zero = rw add-zero
+more-parts m (suc d) =
+    let up : m + (m + suc d) ≡ suc (m + (m + d)) = omega arith in
+    let k : m + suc d ≡ suc (m + d) = omega arith in
+    let left : m + (m + d) - (m + d) ≡ m = omega arith in
+    ap₂ partitionsOf up k
+    ∙ partitions-rule (m + (m + d)) (m + d) (omega arith)
+    ∙ ap (λ i. partitionsOf (m + (m + d)) (m + d) + partitionsOf i (suc (m + d))) left
+    ∙ omega (arith, partitions-none m (suc (m + d)) (omega arith), more-parts m d)
+
+pub many-parts : (n k : ℕ) → k ≤ n → n ≤ 2 * k → partitionsOf (2 * (n - k)) (n - k) ≡ partitionsOf n k
+many-parts n k h b =
+    let m = n - k in
+    let d = k - m in
+    let twice : 2 * m ≡ m + m = omega arith in
+    let whole : m + (m + d) ≡ n = omega arith in
+    let here : m + d ≡ k = omega arith in
+    ap (λ i. partitionsOf i m) twice ∙ sym (more-parts m d) ∙ ap₂ partitionsOf whole here

@@ -1,14 +1,11 @@
 -- Stirling numbers of the second kind: their recursion, where they are 0 and where not, and that they grow.
 -- Assumes nothing.
-use mathlib.Core.Path.{_≡_, refl, sym, _∙_, ap}
-use mathlib.Core.List.{[], _∷_, map}
-use Prim.Native.Nat.{ℕ, zero, suc, _+_, _*_, _/_, _≤_, _<_}
-use native.Mathlib.Nat.{suc-mul, zero-mul, mul-zero}
+use mathlib.Core.Path.{_≡_, refl, sym, _∙_, ap, ap₂}
+use Prim.Native.Nat.{ℕ, zero, suc, _+_, _-_, _*_, _/_, _%_, _≤_, _<_}
+use native.Mathlib.Nat.{suc-mul, zero-mul, mul-zero, mul-le-mul}
 use native.Mathlib.Omega.{arith}
-use lib.ListN.{getD, List·getD-map}
 use Rattle.counting.specs.Numbers.{stirlingOf}
-use Rattle.counting.proofs.Capped.{cap}
-use Rattle.counting.proofs.Weighted.{Weighted, rows, computed-at}
+use Rattle.counting.proofs.Weighted.{Weighted}
 
 pub stirling-rule : (n k : ℕ) → stirlingOf (suc n) (suc k) ≡ stirlingOf n k + suc k * stirlingOf n (suc k)
 unfolding stirlingOf
@@ -47,8 +44,30 @@ pub stirling-weighted : Weighted (λ k. k) stirlingOf
 unfolding stirlingOf
 stirling-weighted = record { corner = refl; left = λ n. sym (zero-mul (stirlingOf n 0)); rule = λ n k. refl; outside = λ n. stirling-none n (suc n) (omega arith) }
 
--- the entry k of row n in the list of m computed rows, as 64 bits hold it
-pub stirling-capped-at : (m n k : ℕ) → n < m → k ≤ n → getD (map cap (rows (λ k. k) m (1 ∷ []))) (n * (n + 1) / 2 + k) 0 ≡ cap (stirlingOf n k)
-unfolding cap
-stirling-capped-at m n k h b =
-    List·getD-map cap (rows (λ k. k) m (1 ∷ [])) (n * (n + 1) / 2 + k) 0 ∙ ap cap (computed-at (λ k. k) stirlingOf stirling-weighted m n k h b)
+pub stirling-one : (n : ℕ) → 0 < n → stirlingOf n 1 ≡ 1
+stirling-one zero pos = absurd (omega arith)
+stirling-one (suc zero) pos = omega (arith, stirling-rule 0 0, stirling-corner, stirling-none 0 1 (omega arith))
+stirling-one (suc (suc n)) pos = omega (arith, stirling-rule (suc n) 0, stirling-zero (suc n) (omega arith), stirling-one (suc n) (omega arith))
+
+pub stirling-all : (n : ℕ) → stirlingOf n n ≡ 1
+stirling-all zero = stirling-corner
+stirling-all (suc n) = rw (stirling-rule, stirling-none n (suc n) (omega arith), mul-zero) (omega (arith, stirling-all n))
+
+-- between the ends of a row no number is 1
+pub stirling-more : (n k : ℕ) → 2 ≤ k → k < n → 2 ≤ stirlingOf n k
+stirling-more zero k more short = absurd (omega arith)
+stirling-more (suc n) zero more short = absurd (omega arith)
+stirling-more (suc n) (suc k) more short =
+    let some : 2 * 1 ≤ suc k * stirlingOf n (suc k) = mul-le-mul more (stirling-positive n (suc k) (omega arith) (omega arith)) in
+    omega (arith, stirling-rule n k, some)
+
+-- a row through the even row at or above it
+
+pub even-row : (n k : ℕ) → n % 2 ≡ 0 → stirlingOf (2 * (n / 2)) k ≡ stirlingOf n k
+even-row n k e = let same : 2 * (n / 2) ≡ n = omega arith in ap (λ m. stirlingOf m k) same
+
+pub odd-row : (n k : ℕ) → (n % 2 ≡ 0 → ⊥) → 0 < k → stirlingOf (2 * (n / 2)) (k - 1) + k * stirlingOf (2 * (n / 2)) k ≡ stirlingOf n k
+odd-row n k odd pos =
+    let row : suc (2 * (n / 2)) ≡ n = omega arith in
+    let here : suc (k - 1) ≡ k = omega arith in
+    ap (λ j. stirlingOf (2 * (n / 2)) (k - 1) + j * stirlingOf (2 * (n / 2)) j) (sym here) ∙ sym (stirling-rule (2 * (n / 2)) (k - 1)) ∙ ap₂ stirlingOf row here

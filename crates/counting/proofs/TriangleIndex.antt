@@ -10,6 +10,7 @@ use lib.Seq.{getD-append-add}
 use Rattle.counting.specs.Sums.{range}
 use Rattle.counting.proofs.Ranges.{length-range, getD-table}
 use Rattle.counting.proofs.Triangles.{row, flatFrom}
+use Rattle.counting.proofs.Widths.{above}
 
 length-row : (T : ℕ → ℕ → ℕ) (n : ℕ) → length (row T n) ≡ suc n
 unfolding row
@@ -19,13 +20,8 @@ row-at : (T : ℕ → ℕ → ℕ) (n k : ℕ) → k ≤ n → getD (row T n) k 
 unfolding row
 row-at T n k h = getD-table (T n) (suc n) k 0 (omega arith)
 
--- how many entries stand in j rows from row n on
-entries : ℕ → ℕ → ℕ
-entries n zero = 0
-entries n (suc j) = suc n + entries (suc n) j
-
-flat-at : (T : ℕ → ℕ → ℕ) (m n j k : ℕ) → j < m → k ≤ n + j → getD (flatFrom T m n) (entries n j + k) 0 ≡ T (n + j) k
-unfolding flatFrom entries
+flat-at : (T : ℕ → ℕ → ℕ) (m n j k : ℕ) → j < m → k ≤ n + j → getD (flatFrom T m n) (above suc n j + k) 0 ≡ T (n + j) k
+unfolding flatFrom above
 flat-at T zero n j k h b = absurd (omega arith)
 flat-at T (suc m) n zero k h b =
     ap (λ (i : ℕ). getD (row T n ++ flatFrom T m (suc n)) i 0) (zero-add k)
@@ -33,22 +29,22 @@ flat-at T (suc m) n zero k h b =
     ∙ row-at T n k (omega arith)
     ∙ ap (λ (i : ℕ). T i k) (sym (add-zero n))
 flat-at T (suc m) n (suc j) k h b =
-    ap (λ (i : ℕ). getD (row T n ++ flatFrom T m (suc n)) i 0) (add-assoc (suc n) (entries (suc n) j) k ∙ ap (λ (i : ℕ). i + (entries (suc n) j + k)) (sym (length-row T n)))
-    ∙ getD-append-add (row T n) (flatFrom T m (suc n)) (entries (suc n) j + k) 0
+    ap (λ (i : ℕ). getD (row T n ++ flatFrom T m (suc n)) i 0) (add-assoc (suc n) (above suc (suc n) j) k ∙ ap (λ (i : ℕ). i + (above suc (suc n) j + k)) (sym (length-row T n)))
+    ∙ getD-append-add (row T n) (flatFrom T m (suc n)) (above suc (suc n) j + k) 0
     ∙ flat-at T m (suc n) j k (omega arith) (omega arith)
     ∙ ap (λ (i : ℕ). T i k) (omega arith)
 
 -- twice the entries of j rows from row n on
-twice : (n j : ℕ) → 2 * entries n j ≡ j * (n + n + j + 1)
-unfolding entries
+twice : (n j : ℕ) → 2 * above suc n j ≡ j * (n + n + j + 1)
+unfolding above
 twice n zero = rw zero-mul
 twice n (suc j) =
     let x = n + n + suc j + 1 in
-    let e : 2 * entries (suc n) j ≡ j * x + j = twice (suc n) j ∙ ap (λ (i : ℕ). j * i) (omega arith) ∙ mul-suc j x in
+    let e : 2 * above suc (suc n) j ≡ j * x + j = twice (suc n) j ∙ ap (λ (i : ℕ). j * i) (omega arith) ∙ mul-suc j x in
     rw (suc-mul j) (omega arith)
 
-entries-zero : (n : ℕ) → entries 0 n ≡ n * (n + 1) / 2
-entries-zero n = sym (mul-div-cancel-left (entries 0 n) (omega arith)) ∙ ap (λ (i : ℕ). i / 2) (twice 0 n ∙ ap (λ (i : ℕ). n * i) (omega arith))
+entries-zero : (n : ℕ) → above suc 0 n ≡ n * (n + 1) / 2
+entries-zero n = sym (mul-div-cancel-left (above suc 0 n) (omega arith)) ∙ ap (λ (i : ℕ). i / 2) (twice 0 n ∙ ap (λ (i : ℕ). n * i) (omega arith))
 
 -- the entry k of row n, of m rows
 pub entry-at : (T : ℕ → ℕ → ℕ) (m n k : ℕ) → n < m → k ≤ n → getD (flatFrom T m 0) (n * (n + 1) / 2 + k) 0 ≡ T n k

@@ -34,7 +34,7 @@ module _ (w : ℕ → ℕ) (T : ℕ → ℕ → ℕ) (𝓦 : Weighted w T) where
       ap (λ (x : ℕ). x ∷ []) (sym (𝓦 .rule n k ∙ rw (o, mul-zero, add-zero)))
   step-from n k (suc m) e = ap₂ (λ (x : ℕ) (l : List ℕ). x ∷ l) (sym (𝓦 .rule n k)) (step-from n (suc k) m (omega arith))
 
-  step-row : (n : ℕ) → step w 0 0 (row T n) ≡ row T (suc n)
+  pub step-row : (n : ℕ) → step w 0 0 (row T n) ≡ row T (suc n)
   unfolding step row range
   step-row n = ap₂ (λ (x : ℕ) (l : List ℕ). x ∷ l) (zero-add (w 0 * T n 0) ∙ sym (𝓦 .left n)) (step-from n 0 n (zero-add n))
 

@@ -4,3 +4,4 @@ pub mod Sums
 pub mod Numbers
 pub mod Answers
 pub mod Window
+pub mod Capped

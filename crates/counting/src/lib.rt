@@ -2,7 +2,7 @@
 // paper's table are answered by a case of their own.
 ghost use mathlib.Core.Path.{_≡_};
 ghost use mathlib.Core.Bool.{_&&_};
-ghost use Prim.Native.Nat.{_+_, _*_, _/_, _≤_};
+ghost use Prim.Native.Nat.{_+_, _*_, _/_, _≤_, _<_, _^_};
 ghost use lib.Dec.{leb};
 ghost use Rattle.counting.specs.Limits.{places, branches};
 ghost use Rattle.counting.specs.Sums.{total};
@@ -10,6 +10,8 @@ ghost use Rattle.counting.specs.Numbers.{choose, factorialOf, multinomia
 ghost use Rattle.counting.specs.Answers.{fits, within};
 
 mod blocks;
+mod coefficients;
+mod entries;
 mod parts;
 mod pascal;
 mod product;
@@ -56,46 +58,6 @@ const FACTORIALS: [u64; 21] = [
     2432902008176640000,
 ];
 
-const CATALANS: [u64; 37] = [
-    1,
-    1,
-    2,
-    5,
-    14,
-    42,
-    132,
-    429,
-    1430,
-    4862,
-    16796,
-    58786,
-    208012,
-    742900,
-    2674440,
-    9694845,
-    35357670,
-    129644790,
-    477638700,
-    1767263190,
-    6564120420,
-    24466267020,
-    91482563640,
-    343059613650,
-    1289904147324,
-    4861946401452,
-    18367353072152,
-    69533550916004,
-    263747951750360,
-    1002242216651368,
-    3814986502092304,
-    14544636039226909,
-    55534064877048198,
-    212336130412243110,
-    812944042149730764,
-    3116285494907301262,
-    11959798385860453492,
-];
-
 // Where the entry k of row n stands in a triangle that is written row after row.
 fn place(n: u64, k: u64) -> usize
     requires { ⌜ (n ≤ places) × (k ≤ n) ⌝ }
@@ -121,6 +83,33 @@ pub fn binomial(n: u64, k: u64) -> Count
         return Count::Exactly(pascal::entry(n, k));
     }
     window::climb(n, k)
+}
+
+// The same number, by one read whatever the row: for the questions and the ranks.
+pub fn coefficient(n: u64, k: u64) -> Count
+    ensures { λ r. ⌜ r ≡ within (leb n places && leb k places) (fits (choose n k)) ⌝ }
+{
+    if PLACES < n {
+        return Count::Outside;
+    }
+    if PLACES < k {
+        return Count::Outside;
+    }
+    if n < k {
+        return Count::Exactly(0);
+    }
+    entries::told(coefficients::entry(n, k))
+}
+
+// The same number where it fits: what a rank reads at each place.
+pub fn coefficient_that_fits(n: u64, k: u64) -> u64
+    requires { ⌜ (n ≤ places) × (choose n k < 2 ^ 64) ⌝ }
+    ensures { λ r. ⌜ r ≡ choose n k ⌝ }
+{
+    if n < k {
+        return 0;
+    }
+    coefficients::entry(n, k)
 }
 
 // Kind 2: anagrams, letter i as often as counts[i] says.
@@ -169,6 +158,23 @@ pub fn stirling(n: u64, k: u64) -> Count
     blocks::entry(n, k)
 }
 
+// The same number where it fits.
+pub fn stirling_that_fits(n: u64, k: u64) -> u64
+    requires { ⌜ (n ≤ places) × (stirlingOf n k < 2 ^ 64) ⌝ }
+    ensures { λ r. ⌜ r ≡ stirlingOf n k ⌝ }
+{
+    if n < k {
+        return 0;
+    }
+    if n == 0 {
+        return 1;
+    }
+    if k == 0 {
+        return 0;
+    }
+    blocks::exact(n, k)
+}
+
 // Kind 5: partitions of the number n into exactly k parts.
 pub fn partitions(n: u64, k: u64) -> Count
     ensures { λ r. ⌜ r ≡ within (leb n places && leb k places) (fits (partitionsOf n k)) ⌝ }
@@ -195,6 +201,13 @@ pub fn catalan(n: u64) -> Count
     if 36 < n {
         return Count::TooLarge;
     }
-    let at = n as usize;
-    Count::Exactly(CATALANS[at])
+    Count::Exactly(catalan_table::entry(n as usize))
+}
+
+// The same number where it fits.
+pub fn catalan_that_fits(n: u64) -> u64
+    requires { ⌜ catalanOf n < 2 ^ 64 ⌝ }
+    ensures { λ r. ⌜ r ≡ catalanOf n ⌝ }
+{
+    catalan_table::entry(n as usize)
 }

@@ -8,7 +8,7 @@ ghost use Rattle.counting.specs.Numbers.{multinomialOf};
 ghost use Rattle.counting.specs.Answers.{fits};
 use crate::Count;
 use crate::PLACES;
-use crate::binomial;
+use crate::coefficient;
 
 fn wide(b: u8) -> u64
     ensures { λ r. ⌜ r ≡ b ⌝ }
@@ -57,7 +57,7 @@ pub fn of_binomials(counts: &[u8]) -> Count
         i -= 1;
         let c = wide(counts[i]);
         length += c;
-        let Count::Exactly(ways) = binomial(length, c) else {
+        let Count::Exactly(ways) = coefficient(length, c) else {
             return Count::TooLarge;
         };
         let Count::Exactly(more) = times(words, ways) else {

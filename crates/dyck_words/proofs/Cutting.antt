@@ -15,9 +15,10 @@ use Rattle.listings.specs.Places.{At}
 use Rattle.dyck_words.specs.Objects.{isDyckWord}
 use Rattle.dyck_words.specs.Trees.{Tree, leaf, node, size, word, parse}
 use Rattle.dyck_words.specs.Listing.{dyckWords}
-use Rattle.dyck_words.specs.Reading.{shorter}
+use Rattle.dyck_words.specs.Reading.{shorter, Told}
 use Rattle.dyck_words.proofs.Words.{word-length, dyck-cases, dyck-makes}
 use Rattle.dyck_words.proofs.RankLaws.{word-at}
+use Rattle.dyck_words.proofs.RowTable.{told-rest, told-part}
 
 -- a word with a branch, whose inside is len long
 
@@ -25,10 +26,12 @@ pub record Cut (n : ℕ) (x : Bytes) (len : ℕ) : Type 0 where
   pub inner : Tree
   pub outer : Tree
   pub whole : x ≡ 1 ∷ (word inner ++ (0 ∷ word outer))
+  pub inner-long : len ≡ length (word inner)
   pub inner-size : size inner ≡ len / 2
   pub outer-size : size outer ≡ n - 1 - len / 2
   pub within : len / 2 ≤ n - 1
   pub inside : len + 2 ≤ length x
+  pub rest-long : length x ≡ len + 2 + length (word outer)
   pub inner-part : take (len + 1 - 1) (drop 1 x) ≡ word inner
   pub outer-part : take (length x - (len + 2)) (drop (len + 2) x) ≡ word outer
 
@@ -50,10 +53,12 @@ cut n x {len} o branched tells = let d = dyck-cases n x o in from (parse x) (sym
           inner = i;
           outer = r;
           whole = e;
+          inner-long = at;
           inner-size = omega arith;
           outer-size = omega arith;
           within = omega arith;
           inside = omega arith;
+          rest-long = long;
           inner-part = ap (λ (z : Bytes). take (len + 1 - 1) (drop 1 z)) e ∙ take-at (word i) (0 ∷ word r) (len + 1 - 1) (omega arith);
           outer-part =
               ap (λ (z : Bytes). take (length x - (len + 2)) (drop (len + 2) z)) e
@@ -67,6 +72,16 @@ inner-word c = rw (c .inner-part) (dyck-makes (c .inner) (c .inner-size))
 
 pub outer-word : {n len : ℕ} {x : Bytes} (c : Cut n x len) → isDyckWord (n - 1 - len / 2) (take (length x - (len + 2)) (drop (len + 2) x)) ≡ true
 outer-word c = rw (c .outer-part) (dyck-makes (c .outer) (c .outer-size))
+
+-- whose rows the table has
+
+pub inner-told : {n len after : ℕ} {x rows : Bytes} (c : Cut n x len) → Told x after rows → Told (take (len + 1 - 1) (drop 1 x)) (after + (length x - (len + 1))) rows
+unfolding word
+inner-told c told = told-part (c .inner) (c .outer) told (c .whole) (c .inner-part) (omega (arith, c .inner-long))
+
+pub outer-told : {n len after : ℕ} {x rows : Bytes} (c : Cut n x len) → Told x after rows → Told (take (length x - (len + 2)) (drop (len + 2) x)) after rows
+unfolding word
+outer-told c told = told-rest (c .inner) (c .outer) told (c .whole) (c .outer-part)
 
 -- where the word stands, by where its parts stand
 pub ranked : (p q : ℕ) {n len s w : ℕ} {x : Bytes} → (n ≡ 0 → ⊥) → Cut n x len

@@ -8,6 +8,7 @@ pub mod Passing
 pub mod RankLaws
 pub mod Cutting
 pub mod Closing
+pub mod RowTable
 pub mod TreeSteps
 pub mod Edges
 pub mod Lent

@@ -16,7 +16,7 @@ use Rattle.listings.specs.Bytes.{Bytes}
 use Rattle.dyck_words.specs.declared.reading.Read.{Read}
 use Rattle.dyck_words.specs.declared.reading.Read.the-variants.{To, Broken}
 use Rattle.dyck_words.specs.Objects.{balancedFrom, isDyckWord}
-use Rattle.dyck_words.specs.Reading.{Passed, Fails, RowRead, BranchRead}
+use Rattle.dyck_words.specs.Reading.{closing, Passed, Fails, RowRead, BranchRead}
 
 -- what one byte does to the test
 
@@ -45,19 +45,27 @@ module _ (x : Bytes) (i : ℕ) (within : i < length x) where
   unfolding balancedFrom
   up-at e h = rw (drop-cons x i 0 within, e, add-one)
 
+  higher-at : getD x i 0 ≡ 1 → (h : ℕ) → closing (suc h) (drop i x) ≡ suc (closing (suc (suc h)) (drop (i + 1) x))
+  unfolding closing
+  higher-at e h = rw (drop-cons x i 0 within, e, add-one)
+
   -- a 0 leads down
   down-at : getD x i 0 ≡ 0 → (h : ℕ) → balancedFrom (suc h) (drop i x) ≡ balancedFrom h (drop (i + 1) x)
   unfolding balancedFrom
   down-at e h = rw (drop-cons x i 0 within, e, add-one)
 
+  lower-at : getD x i 0 ≡ 0 → (h : ℕ) → closing (suc h) (drop i x) ≡ suc (closing h (drop (i + 1) x))
+  unfolding closing
+  lower-at e h = rw (drop-cons x i 0 within, e, add-one)
+
 -- a row
 
 pub row-stays : {x : Bytes} {i : ℕ} → i ≤ length x → (getD x i 0 ≡ 1 → ⊥) → RowRead x i (To i)
-row-stays within ones = (record { onward = omega arith; inside = within; same = λ h. refl }, ones)
+row-stays within ones = (record { onward = omega arith; inside = within; same = λ h. refl; above = λ h. refl }, ones)
 
 pub row-goes : {x : Bytes} {i j : ℕ} → Passed x i j → (r : Read) → RowRead x j r → RowRead x i r
 row-goes p (To e) q =
-    (record { onward = omega (arith, p .onward, q .0 .onward); inside = q .0 .inside; same = λ h. p .same h ∙ q .0 .same h }, q .1)
+    (record { onward = omega (arith, p .onward, q .0 .onward); inside = q .0 .inside; same = λ h. p .same h ∙ q .0 .same h; above = λ h. p .above h ∙ q .0 .above h }, q .1)
 row-goes p Broken q = λ h. p .same h ∙ q h
 
 -- a branch, which begins with a 1
@@ -84,6 +92,7 @@ module _ (x : Bytes) (i : ℕ) (within : i < length x) (one : getD x i 0 ≡ 1) 
       onward = omega (arith, p .onward);
       inside = omega arith;
       same = λ h. up-at x i within one h ∙ p .same (suc h) ∙ down-at x e inside zeros h;
+      above = λ h. omega (arith, higher-at x i within one h, p .above (suc h), lower-at x e inside zeros (suc h));
     },
     omega (arith, p .onward),
   )

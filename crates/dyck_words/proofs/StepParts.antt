@@ -1,15 +1,17 @@
 -- What a step of the rest or of the inside, lent out of a word, does to the word, in either direction.
 -- Assumes nothing.
 use mathlib.Core.Path.{_≡_, refl, sym, _∙_, ap, subst}
-use Prim.Native.Nat.{ℕ}
+use Prim.Native.Nat.{ℕ, _+_, _-_}
 use native.Mathlib.Omega.{arith}
 use lib.ListN.{length}
 use Rattle.listings.specs.Bytes.{Bytes}
 use Rattle.listings.specs.declared.Step.{Step}
 use Rattle.listings.specs.declared.Step.the-variants.{Stepped, End}
 use Rattle.dyck_words.specs.Trees.{Tree, leaf, node, word, parse}
+use Rattle.dyck_words.specs.Reading.{Told}
 use Rattle.dyck_words.specs.Moves.{Moved, Parts}
 use Rattle.dyck_words.proofs.Words.{parse-word}
+use Rattle.dyck_words.proofs.RowTable.{told-rest, told-part}
 use Rattle.dyck_words.proofs.Lent.{restPart, withRest, insidePart, withInside, rest-lent, rest-put, inside-lent, inside-put}
 
 -- the inside and the rest of a tree
@@ -55,6 +57,13 @@ module _ {x : Bytes} {len : ℕ} {i r : Tree} (p : Parts x len i r) where
 
   pub inside-spelled : word (parse (insidePart x len)) ≡ insidePart x len
   inside-spelled = ap word reads-inside ∙ sym (inside-lent p)
+
+  -- whose rows the table has
+  pub rest-told : {after : ℕ} {rows : Bytes} → Told x after rows → Told (restPart x len) after rows
+  rest-told told = told-rest i r told (p .whole) (rest-lent p)
+
+  pub inside-told : {y : Bytes} {after : ℕ} {rows : Bytes} → x ≡ y → Told y after rows → Told (insidePart x len) (after + (length x - (len + 1))) rows
+  inside-told e told = told-part i r told (sym e ∙ p .whole) (inside-lent p) (omega (arith, ap length e, p .long))
 
   -- and each has moved on or back, or stands at the edge
 

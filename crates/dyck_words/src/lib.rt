@@ -55,7 +55,8 @@ pub fn next(n: u64, object: &mut [u8]) -> Step
     requires { ⌜ isDyckWord n (now object) ≡ true ⌝ }
     ensures { λ r. ⌜ _≡_ {A = Said} (stepAs r, now (object .exit)) (act NEXT dyckBefore (dyckWords n) (now (object .entry))) ⌝ }
 {
-    stepping::step_on(object)
+    let rows = reading::row_lengths(object);
+    stepping::step_on(object, &rows, 0)
 }
 
 // The word just before.
@@ -63,7 +64,8 @@ pub fn previous(n: u64, object: &mut [u8]) -> Step
     requires { ⌜ isDyckWord n (now object) ≡ true ⌝ }
     ensures { λ r. ⌜ _≡_ {A = Said} (stepAs r, now (object .exit)) (act PREVIOUS dyckBefore (dyckWords n) (now (object .entry))) ⌝ }
 {
-    stepping::step_back(object)
+    let rows = reading::row_lengths(object);
+    stepping::step_back(object, &rows, 0)
 }
 
 // How many words come before it.
@@ -72,7 +74,8 @@ pub fn rank(n: u64, object: &[u8]) -> u64
     requires { ⌜ catalanOf n < 2 ^ 64 ⌝ }
     ensures { λ r. ⌜ r ≡ countBefore dyckBefore (now (object .entry)) (dyckWords n) ⌝ }
 {
-    ranking::rank_of(n, object)
+    let rows = reading::row_lengths(object);
+    ranking::rank_of(n, object, &rows, 0)
 }
 
 // The word of a rank.

@@ -2,27 +2,23 @@
 // the rest's.
 ghost use mathlib.Core.Path.{_≡_};
 ghost use mathlib.Core.Bool.{true};
-ghost use Prim.Native.Nat.{suc, _*_, _-_, _≤_, _<_, _^_};
+ghost use Prim.Native.Nat.{suc, _+_, _*_, _-_, _≤_, _<_, _^_};
 ghost use lib.ListN.{length};
 ghost use Rattle.counting.specs.Limits.{branches};
 ghost use Rattle.counting.specs.Numbers.{catalanOf};
 ghost use Rattle.listings.specs.Places.{At};
 ghost use Rattle.dyck_words.specs.Objects.{isDyckWord};
 ghost use Rattle.dyck_words.specs.Listing.{dyckWords};
-ghost use Rattle.dyck_words.specs.Reading.{shorter};
-use crate::reading::inside_of;
-use counting::Count;
-use counting::catalan;
+ghost use Rattle.dyck_words.specs.Reading.{shorter, Told};
+use crate::reading::inside_len;
+use counting::catalan_that_fits;
 
 // Words with n of each, where their number fits.
 fn ways(n: u64) -> u64
     requires { ⌜ (n ≤ branches) × (catalanOf n < 2 ^ 64) ⌝ }
     ensures { λ r. ⌜ r ≡ catalanOf n ⌝ }
 {
-    let Count::Exactly(v) = catalan(n) else {
-        return 0;
-    };
-    v
+    catalan_that_fits(n)
 }
 
 // Words with n + 1 of each whose inside has j.
@@ -48,22 +44,24 @@ fn shorter_insides(n: u64, j: u64) -> u64
 }
 
 // Ranking lends the inside and the rest to itself as parts from the middle of the word.
-pub fn rank_of(n: u64, object: &[u8]) -> u64
+pub fn rank_of(n: u64, object: &[u8], rows: &[u8; 81], after: usize) -> u64
     requires { ⌜ (n ≤ branches) × (isDyckWord n (now object) ≡ true) ⌝ }
+    requires { ⌜ (after + length (now object) < 2 ^ 64) × Told (now object) after (now rows) ⌝ }
     requires { ⌜ catalanOf n < 2 ^ 64 ⌝ }
     ensures { λ r. ⌜ At (dyckWords n) (now (object .entry)) r ⌝ }
 {
     if n == 0 {
         return 0;
     }
-    let len = inside_of(object);
+    let len = inside_len(object, rows, after);
     let close = len + 1;
     let rest = len + 2;
     let j = (len / 2) as u64;
     let m = n - 1;
     let k = m - j;
-    let inside_rank = rank_of(j, &object[1..close]);
-    let rest_rank = rank_of(k, &object[rest..]);
+    let behind = after + (object.len() - close);
+    let inside_rank = rank_of(j, &object[1..close], rows, behind);
+    let rest_rank = rank_of(k, &object[rest..], rows, after);
     shorter_insides(m, j) + inside_rank * ways(k) + rest_rank
 }
 

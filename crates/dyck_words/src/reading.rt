@@ -1,10 +1,11 @@
 // The readers of a Dyck word: "a row is branches one after another; a branch is 1, a row, 0". They call each other, and the bytes that are
-// left fall.
+// left fall. And a table of how long each row is, so that steps and ranks need not read an inside again at each level.
 
 ghost use mathlib.Core.Path.{_≡_};
-ghost use Prim.Native.Nat.{_≤_, _<_};
+ghost use Prim.Native.Nat.{ℕ, _+_, _≤_, _<_, _^_};
 ghost use lib.ListN.{length, getD};
-ghost use Rattle.dyck_words.specs.Reading.{RowRead, BranchRead};
+ghost use Rattle.counting.specs.Limits.{places};
+ghost use Rattle.dyck_words.specs.Reading.{RowRead, BranchRead, RowHere, Told};
 ghost use Rattle.dyck_words.specs.Trees.{Tree, node, word};
 
 // How far a reader came, or that no word stands there.
@@ -47,22 +48,52 @@ fn branch(object: &[u8], at: usize) -> Read
     Read::To(end + 1)
 }
 
-// How long the inside is of a word that isn't empty: up to the 0 that closes its first 1.
-pub fn inside_of(object: &[u8]) -> usize
+// How long the row is that starts with the byte first, in front of d bytes whose rows the table has: 1, an inside, 0, a rest.
+fn row_here(first: u8, rows: &[u8; 81], d: usize) -> u8
+    requires { ⌜ (d < places) × ((k : ℕ) → getD (now rows) k 0 ≤ k) ⌝ }
+    ensures { λ r. ⌜ RowHere first (now (rows .entry)) d r ⌝ }
+{
+    if first != 1 {
+        return 0;
+    }
+    let inside = rows[d] as usize;
+    if d <= inside {
+        return 0;
+    }
+    rows[d] + 2 + rows[d - inside - 1]
+}
+
+// The table: for each of the last 80 places, by how many bytes are left there, how long the row is that starts there. One pass from the
+// right.
+pub fn row_lengths(object: &[u8]) -> [u8; 81]
+    ensures { λ r. ⌜ Told (now (object .entry)) 0 r ⌝ }
+{
+    let mut rows = [0u8; 81];
+    let mut d = 0;
+    while d < 80 {
+        if object.len() <= d {
+            return rows;
+        }
+        let first = object[object.len() - d - 1];
+        rows[d + 1] = row_here(first, &rows, d);
+        d += 1;
+    }
+    rows
+}
+
+// How long the inside is of a word that isn't empty, with after more bytes behind it. The table has it; only in a word of more than 80
+// bytes, which no family has, is its row read.
+pub fn inside_len(object: &[u8], rows: &[u8; 81], after: usize) -> usize
+    requires { ⌜ (0 < length (now object)) × (after + length (now object) < 2 ^ 64) ⌝ }
+    requires { ⌜ Told (now object) after (now rows) ⌝ }
     ensures { λ r. ⌜ ((i u : Tree) → now (object .entry) ≡ word (node i u) → r ≡ length (word i)) ⌝ }
 {
-    let mut height: usize = 1;
-    let mut i = 1;
-    while i < object.len() {
-        if object[i] == 1 {
-            height += 1;
-        } else {
-            height -= 1;
-        }
-        if height == 0 {
-            return i - 1;
-        }
-        i += 1;
+    let left = after + object.len() - 1;
+    if left <= 80 {
+        return rows[left] as usize;
     }
-    0
+    let Read::To(end) = row(object, 1) else {
+        return 0;
+    };
+    end - 1
 }

@@ -1,11 +1,12 @@
 // The steps of Dyck words, in both directions: the rest moves first, then the inside, then the inside's length; what lies behind the place
-// that moved starts over.
+// that moved starts over. Each part of a word is lent with the table of the whole word's rows, and with how many of its bytes come after it.
 ghost use mathlib.Core.Path.{_≡_};
-ghost use Prim.Native.Nat.{ℕ, _*_};
+ghost use Prim.Native.Nat.{ℕ, _+_, _*_, _<_, _^_};
 ghost use lib.ListN.{length};
 ghost use Rattle.dyck_words.specs.Trees.{Tree, node, word, parse};
 ghost use Rattle.dyck_words.specs.Moves.{firstTree, lastTree, AtFirst, AtLast, MovedOn, MovedBack, Parts};
-use crate::reading::inside_of;
+ghost use Rattle.dyck_words.specs.Reading.{Told};
+use crate::reading::inside_len;
 use listings::Step;
 
 // 1 0 1 0 ..
@@ -44,20 +45,22 @@ fn longer_inside(object: &mut [u8], len: usize) -> Step
 }
 
 // The rest, or the inside with the earliest rest, or a longer inside.
-pub fn step_on(object: &mut [u8]) -> Step
+pub fn step_on(object: &mut [u8], rows: &[u8; 81], after: usize) -> Step
     requires { ⌜ word (parse (now object)) ≡ now object ⌝ }
+    requires { ⌜ (after + length (now object) < 2 ^ 64) × Told (now object) after (now rows) ⌝ }
     ensures { λ s. ⌜ MovedOn (parse (now (object .entry))) s (now (object .exit)) ⌝ }
 {
     if object.len() == 0 {
         return Step::End;
     }
-    let len = inside_of(object);
+    let len = inside_len(object, rows, after);
     let rest = len + 2;
-    let Step::End = step_on(&mut object[rest..]) else {
+    let Step::End = step_on(&mut object[rest..], rows, after) else {
         return Step::Stepped;
     };
     let close = len + 1;
-    let Step::Stepped = step_on(&mut object[1..close]) else {
+    let behind = after + (object.len() - close);
+    let Step::Stepped = step_on(&mut object[1..close], rows, behind) else {
         return longer_inside(object, len);
     };
     write_first(&mut object[rest..]);
@@ -80,20 +83,22 @@ fn shorter_inside(object: &mut [u8], len: usize) -> Step
 }
 
 // The rest, or the inside with the latest rest, or a shorter inside.
-pub fn step_back(object: &mut [u8]) -> Step
+pub fn step_back(object: &mut [u8], rows: &[u8; 81], after: usize) -> Step
     requires { ⌜ word (parse (now object)) ≡ now object ⌝ }
+    requires { ⌜ (after + length (now object) < 2 ^ 64) × Told (now object) after (now rows) ⌝ }
     ensures { λ s. ⌜ MovedBack (parse (now (object .entry))) s (now (object .exit)) ⌝ }
 {
     if object.len() == 0 {
         return Step::End;
     }
-    let len = inside_of(object);
+    let len = inside_len(object, rows, after);
     let rest = len + 2;
-    let Step::End = step_back(&mut object[rest..]) else {
+    let Step::End = step_back(&mut object[rest..], rows, after) else {
         return Step::Stepped;
     };
     let close = len + 1;
-    let Step::Stepped = step_back(&mut object[1..close]) else {
+    let behind = after + (object.len() - close);
+    let Step::Stepped = step_back(&mut object[1..close], rows, behind) else {
         return shorter_inside(object, len);
     };
     write_last(&mut object[rest..]);

@@ -145,7 +145,7 @@ pub fn count(f: Family, counts: &[u8]) -> Count
     let n = f.n;
     let k = f.k;
     match kind {
-        1 => counting::binomial(n, k),
+        1 => counting::coefficient(n, k),
         2 => counting::multinomial(counts),
         3 => counting::factorial(n),
         4 => counting::stirling(n, k),
@@ -173,6 +173,24 @@ pub fn exact(f: Family, counts: &[u8]) -> u64
     ensures { λ r. ⌜ r ≡ countOf f (lent (now (counts .entry))) ⌝ }
 {
     let Count::Exactly(v) = count(f, counts) else {
+        return 0;
+    };
+    v
+}
+
+// What COUNT answers: for kind 1 out of paper 01's constant table.
+pub fn answer(f: Family, counts: &[u8]) -> u64
+    requires { ⌜ allowed f (lent (now counts)) ≡ true ⌝ }
+    requires { ⌜ countOf f (lent (now counts)) < 2 ^ 64 ⌝ }
+    ensures { λ r. ⌜ r ≡ countOf f (lent (now (counts .entry))) ⌝ }
+{
+    let kind = f.kind;
+    let n = f.n;
+    let k = f.k;
+    if kind != 1 {
+        return exact(f, counts);
+    }
+    let Count::Exactly(v) = counting::binomial(n, k) else {
         return 0;
     };
     v

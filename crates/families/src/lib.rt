@@ -69,7 +69,7 @@ pub fn count(f: Family, counts: &[u8]) -> Counted
     ensures { λ r. ⌜ _≡_ {A = Said} (countedAs r, []) (respond COUNT f (lent (now (counts .entry))) []) ⌝ }
 {
     let Verdict::No(q) = questions::ask(Call::Count, f, counts, b"") else {
-        return Counted::Objects(counts::exact(f, counts));
+        return Counted::Objects(counts::answer(f, counts));
     };
     Counted::Refused(q)
 }

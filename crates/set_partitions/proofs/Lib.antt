@@ -8,6 +8,6 @@ pub mod KeyEnds
 pub mod Fronts
 pub mod Steps
 pub mod KeyMoves
-pub mod Uses
+pub mod KeyReading
 pub mod Reading
 pub mod Ranking

@@ -1,7 +1,7 @@
 -- The rank of a partition by its last model: alone in its block it leaves the rank to the others; joined to block b, those that come
 -- earlier are the ones with the last model alone or in a block below b. And the partition of a rank. Assumes nothing.
 use mathlib.Core.Path.{_≡_, refl, sym, _∙_, ap, subst, subst₂}
-use mathlib.Core.Bool.{true, false, false≢true}
+use mathlib.Core.Bool.{true}
 use mathlib.Core.List.{[], _∷_, _++_}
 use Prim.Native.Nat.{ℕ, zero, suc, _+_, _-_, _*_, _/_, _%_, _≤_, _<_}
 use native.Mathlib.Nat.{mul-zero, div-add-mod', div-lt-iff-lt-mul}
@@ -9,7 +9,7 @@ use native.Mathlib.Numerals.{add-one}
 use native.Mathlib.Decide.{decLt}
 use native.Mathlib.Omega.{arith}
 use lib.ListN.{length, take, drop, set, getD, drop-of-length-le}
-use lib.Seq.{length-take-le, split-at}
+use lib.Seq.{length-take-le, split-at, getD-at}
 use Rattle.counting.specs.Numbers.{stirlingOf}
 use Rattle.counting.proofs.Laws.{stirling-rule, stirling-none, stirling-zero, stirling-grows, stirling-grows-both}
 use Rattle.listings.specs.Bytes.{Bytes}
@@ -20,12 +20,11 @@ use Rattle.listings.proofs.Ranks.{place-is-rank}
 use Rattle.listings.proofs.Stepping.{at-rank}
 use Rattle.set_partitions.specs.Objects.{isSetPartition, keys, setPartitionBefore}
 use Rattle.set_partitions.specs.Listing.{setPartitions}
-use Rattle.set_partitions.specs.Moves.{uses}
-use Rattle.set_partitions.proofs.Facts.{partition-cases, partition-ends, othersIn, blockOf, take-off}
+use Rattle.set_partitions.proofs.Facts.{length-keys, keys-long, partition-ends, othersIn, blockOf, keys-put-on, Taken, take-off}
 use Rattle.set_partitions.proofs.Theorem.{counted, lists, some-partition}
 use Rattle.set_partitions.proofs.KeySteps.{at-alone, at-joined}
 use Rattle.set_partitions.proofs.Parts.{rest-kept}
-use Rattle.set_partitions.proofs.Uses.{uses-small, uses-all}
+use Rattle.set_partitions.proofs.KeyReading.{keys-take}
 
 -- how many come before x
 abbrev pub rankOf : ℕ → ℕ → Bytes → ℕ
@@ -78,32 +77,46 @@ joined n k b x h o =
       room = omega (arith, same, at-below (setPartitions (suc n) (suc k)) r at, counted (suc n) (suc k));
     }
 
--- which it is: alone where no other uses its block
+-- which it is: alone where its key is 0
 
-is-alone : (n k b : ℕ) (x : Bytes) → isSetPartition (suc n) k (x ++ (b ∷ [])) ≡ true → uses b x ≡ false → Alone n (suc n) k x (x ++ (b ∷ []))
+last-key : (n k b : ℕ) (x : Bytes) (t : Taken n k b x) → getD (keys 0 (x ++ (b ∷ []))) n 0 ≡ t .key
+last-key n k b x t =
+    ap (λ c. getD (keys 0 (x ++ (c ∷ []))) n 0) (t .block) ∙ ap (λ z. getD z n 0) (keys-put-on n k (t .key) x (t .small) (t .front)) ∙ getD-at (keys 0 x) (t .key) [] 0 n (keys-long n (othersIn k (t .key)) x (t .front))
+
+is-alone : (n k b : ℕ) (x : Bytes) → isSetPartition (suc n) k (x ++ (b ∷ [])) ≡ true → getD (keys 0 (x ++ (b ∷ []))) n 0 ≡ 0 → Alone n (suc n) k x (x ++ (b ∷ []))
 unfolding othersIn blockOf
 is-alone n zero b x o u = absurd (omega (arith, partition-ends n 0 (x ++ (b ∷ [])) o .some))
-is-alone n (suc k) b x o u = let t = take-off n k b x o in step (t .key) (t .small) (t .block) (t .front)
+is-alone n (suc k) b x o u = let t = take-off n k b x o in step (t .key) (t .block) (t .front) (sym (last-key n k b x t) ∙ u)
   where
-    step : (c : ℕ) → c ≤ suc k → b ≡ blockOf k c → isSetPartition n (othersIn k c) x ≡ true → Alone n (suc n) (suc k) x (x ++ (b ∷ []))
-    step zero h e f = rw e (alone n k x f)
-    step (suc d) h e f = absurd (false≢true (sym u ∙ uses-all 0 (suc k) b x (partition-cases n (suc k) x f .1) (omega arith) (omega arith)))
+    step : (c : ℕ) → b ≡ blockOf k c → isSetPartition n (othersIn k c) x ≡ true → c ≡ 0 → Alone n (suc n) (suc k) x (x ++ (b ∷ []))
+    step zero e f z = rw e (alone n k x f)
+    step (suc d) e f z = absurd (omega arith)
 
-is-joined : (n k b : ℕ) (x : Bytes) → isSetPartition (suc n) k (x ++ (b ∷ [])) ≡ true → uses b x ≡ true → Joined n (suc n) k b x (x ++ (b ∷ []))
+is-joined : (n k b c : ℕ) (x : Bytes) → isSetPartition (suc n) k (x ++ (b ∷ [])) ≡ true → getD (keys 0 (x ++ (b ∷ []))) n 0 ≡ c → (c ≡ 0 → ⊥) → Joined n (suc n) k c x (x ++ (b ∷ []))
 unfolding othersIn blockOf
-is-joined n zero b x o u = absurd (omega (arith, partition-ends n 0 (x ++ (b ∷ [])) o .some))
-is-joined n (suc k) b x o u = let t = take-off n k b x o in step (t .key) (t .small) (t .block) (t .front)
+is-joined n zero b c x o u some = absurd (omega (arith, partition-ends n 0 (x ++ (b ∷ [])) o .some))
+is-joined n (suc k) b c x o u some = let t = take-off n k b x o in step (t .key) (sym (last-key n k b x t) ∙ u) (t .small) (t .block) (t .front)
   where
-    step : (c : ℕ) → c ≤ suc k → b ≡ blockOf k c → isSetPartition n (othersIn k c) x ≡ true → Joined n (suc n) (suc k) b x (x ++ (b ∷ []))
-    step zero h e f = absurd (omega (arith, uses-small 0 k b x (partition-cases n k x f .1) u))
-    step (suc d) h e f = rw e (joined n k d x (omega arith) f)
+    step : (d : ℕ) → d ≡ c → d ≤ suc k → b ≡ blockOf k d → isSetPartition n (othersIn k d) x ≡ true → Joined n (suc n) (suc k) c x (x ++ (b ∷ []))
+    step zero q h e f = absurd (some (sym q))
+    step (suc d) q h e f = rw (e, ← q) (joined n k d x (omega arith) f)
 
 -- the same of a list and all but its last entry
 
 pub others-long : (x : Bytes) → length (take (length x - 1) x) ≡ length x - 1
 others-long x = length-take-le (length x - 1) x (omega arith)
 
-module _ (k : ℕ) (x : Bytes) (some : length x ≡ 0 → ⊥) (o : isSetPartition (length x) k x ≡ true) where
+module _ (x ks : Bytes) (same : ks ≡ keys 0 x) where
+  pub as-many-keys : length ks ≡ length x
+  as-many-keys = ap length same ∙ length-keys 0 x
+
+  pub keys-of-others : take (length x - 1) ks ≡ keys 0 (take (length x - 1) x)
+  keys-of-others = ap (take (length x - 1)) same ∙ keys-take 0 (length x - 1) x
+
+  pub keys-of-others-long : length (take (length x - 1) ks) ≡ length x - 1
+  keys-of-others-long = length-take-le (length x - 1) ks (omega (arith, as-many-keys))
+
+module _ (k : ℕ) (x ks : Bytes) (some : length x ≡ 0 → ⊥) (o : isSetPartition (length x) k x ≡ true) (same : ks ≡ keys 0 x) where
   one-more : suc (length x - 1) ≡ length x
   one-more = omega arith
 
@@ -115,13 +128,16 @@ module _ (k : ℕ) (x : Bytes) (some : length x ≡ 0 → ⊥) (o : isSetPartiti
   parted : isSetPartition (suc (length x - 1)) k (take (length x - 1) x ++ (getD x (length x - 1) 0 ∷ [])) ≡ true
   parted = subst₂ (λ n z. isSetPartition n k z ≡ true) (sym one-more) (sym in-two) o
 
-  pub ends-alone : uses (getD x (length x - 1) 0) (take (length x - 1) x) ≡ false → Alone (length x - 1) (length x) k (take (length x - 1) x) x
-  ends-alone u =
-      subst₂ (λ m z. Alone (length x - 1) m k (take (length x - 1) x) z) one-more in-two (is-alone (length x - 1) k (getD x (length x - 1) 0) (take (length x - 1) x) parted u)
+  key-there : getD (keys 0 (take (length x - 1) x ++ (getD x (length x - 1) 0 ∷ []))) (length x - 1) 0 ≡ getD ks (length x - 1) 0
+  key-there = ap (λ z. getD (keys 0 z) (length x - 1) 0) in-two ∙ ap (λ z. getD z (length x - 1) 0) (sym same)
 
-  pub ends-joined : uses (getD x (length x - 1) 0) (take (length x - 1) x) ≡ true → Joined (length x - 1) (length x) k (getD x (length x - 1) 0) (take (length x - 1) x) x
+  pub ends-alone : getD ks (length x - 1) 0 ≡ 0 → Alone (length x - 1) (length x) k (take (length x - 1) x) x
+  ends-alone u =
+      subst₂ (λ m z. Alone (length x - 1) m k (take (length x - 1) x) z) one-more in-two (is-alone (length x - 1) k (getD x (length x - 1) 0) (take (length x - 1) x) parted (key-there ∙ u))
+
+  pub ends-joined : (getD ks (length x - 1) 0 ≡ 0 → ⊥) → Joined (length x - 1) (length x) k (getD ks (length x - 1) 0) (take (length x - 1) x) x
   ends-joined u =
-      subst₂ (λ m z. Joined (length x - 1) m k (getD x (length x - 1) 0) (take (length x - 1) x) z) one-more in-two (is-joined (length x - 1) k (getD x (length x - 1) 0) (take (length x - 1) x) parted u)
+      subst₂ (λ m z. Joined (length x - 1) m k (getD ks (length x - 1) 0) (take (length x - 1) x) z) one-more in-two (is-joined (length x - 1) k (getD x (length x - 1) 0) (getD ks (length x - 1) 0) (take (length x - 1) x) parted key-there u)
 
 -- no model
 pub none-before : (k : ℕ) (x : Bytes) → length x ≡ 0 → 0 ≡ rankOf (length x) k x

@@ -1,10 +1,9 @@
--- What the searches behind a step and a rank look for: the first model whose key can move, and whether a block is used.
+-- What the searches behind a step look for: the first model whose key can move.
 -- Assumes nothing.
 use mathlib.Core.Path.{_≡_}
 use mathlib.Core.Bool.{Bool, true, false, _&&_, _||_}
-use mathlib.Core.List.{[], _∷_}
 use Prim.Native.Nat.{ℕ, _-_, _≤_, _<_}
-use lib.Dec.{leb, ltb, eqb}
+use lib.Dec.{leb, ltb}
 use lib.ListN.{length, getD}
 use Rattle.listings.specs.Bytes.{Bytes}
 
@@ -24,8 +23,3 @@ pub record Reached (moves : ℕ → ℕ → ℕ → Bool) (x : Bytes) (r : ℕ) 
   pub behind : r < length x → 1 ≤ r
   pub passed : (i : ℕ) → i < r → 1 ≤ i → moves i (getD x (i - 1) 0) (getD x i 0) ≡ false
   pub found : r < length x → moves r (getD x (r - 1) 0) (getD x r 0) ≡ true
-
--- is one of these models in block b?
-unfoldable pub uses : ℕ → Bytes → Bool
-uses b [] = false
-uses b (a ∷ x) = eqb a b || uses b x

@@ -9,7 +9,7 @@ ghost use Rattle.counting.specs.Numbers.{stirlingOf};
 ghost use Rattle.listings.specs.Calls.{NEXT, PREVIOUS, Said, act};
 ghost use Rattle.listings.specs.Places.{At, First, Last, countBefore};
 ghost use Rattle.listings.specs.Steps.{stepAs};
-ghost use Rattle.set_partitions.specs.Objects.{isSetPartition, setPartitionBefore};
+ghost use Rattle.set_partitions.specs.Objects.{isSetPartition, keys as keysIn, setPartitionBefore};
 ghost use Rattle.set_partitions.specs.Listing.{setPartitions};
 
 mod search;
@@ -19,7 +19,7 @@ use listings::fill_up;
 use listings::fill_with;
 use search::block_to_lower;
 use search::block_to_raise;
-use search::has_block;
+use search::keys_of;
 use search::ways;
 
 // Does the slice hold a partition of n models into k blocks?
@@ -113,11 +113,12 @@ pub fn previous(k: u64, object: &mut [u8]) -> Step
     Step::Stepped
 }
 
-// Through the rank of the partition left when the last model is taken out.
-pub fn rank(k: u64, object: &[u8]) -> u64
+// Through the rank of the partition left when the last model is taken out, whose key is read.
+fn rank_of(k: u64, object: &[u8], keys: &[u8]) -> u64
     requires { ⌜ length (now object) ≤ places ⌝ }
     requires { ⌜ isSetPartition (length (now object)) k (now object) ≡ true ⌝ }
     requires { ⌜ stirlingOf (length (now object)) k < 2 ^ 64 ⌝ }
+    requires { ⌜ now keys ≡ keysIn 0 (now object) ⌝ }
     ensures { λ r. ⌜ r ≡ countBefore setPartitionBefore (now (object .entry)) (setPartitions (length (now (object .entry))) k) ⌝ }
 {
     let n = object.len();
@@ -125,13 +126,25 @@ pub fn rank(k: u64, object: &[u8]) -> u64
         return 0;
     }
     let end = n - 1;
-    let b = object[end];
-    let others = end as u64;
-    if !has_block(&object[..end], b) {
-        return rank(k - 1, &object[..end]);
+    let key = keys[end];
+    if key == 0 {
+        return rank_of(k - 1, &object[..end], &keys[..end]);
     }
-    let earlier = ways(others, k - 1) + (b as u64 - 1) * ways(others, k);
-    earlier + rank(k, &object[..end])
+    let others = end as u64;
+    let earlier = ways(others, k - 1) + (key as u64 - 1) * ways(others, k);
+    earlier + rank_of(k, &object[..end], &keys[..end])
+}
+
+// How many partitions come before it, by its keys.
+pub fn rank(k: u64, object: &[u8]) -> u64
+    requires { ⌜ length (now object) ≤ places ⌝ }
+    requires { ⌜ isSetPartition (length (now object)) k (now object) ≡ true ⌝ }
+    requires { ⌜ stirlingOf (length (now object)) k < 2 ^ 64 ⌝ }
+    ensures { λ r. ⌜ r ≡ countBefore setPartitionBefore (now (object .entry)) (setPartitions (length (now (object .entry))) k) ⌝ }
+{
+    let keys = keys_of(object);
+    let n = object.len();
+    rank_of(k, object, &keys[..n])
 }
 
 // The object of a rank: the key of the last model, and the partition of the others.

@@ -1,11 +1,13 @@
 // The searches behind the steps and ranks of set partitions: each reads, and answers a place or a number.
 ghost use mathlib.Core.Path.{_≡_};
 ghost use Prim.Native.Nat.{_≤_, _<_, _^_};
+ghost use lib.Dec.{ltb};
+ghost use lib.ListN.{length, take};
 ghost use Rattle.counting.specs.Limits.{places};
 ghost use Rattle.counting.specs.Numbers.{stirlingOf};
-ghost use Rattle.set_partitions.specs.Moves.{rises, sinks, Reached, uses};
-use counting::Count;
-use counting::stirling;
+ghost use Rattle.set_partitions.specs.Objects.{keyOf, keys as keysIn};
+ghost use Rattle.set_partitions.specs.Moves.{rises, sinks, Reached};
+use counting::stirling_that_fits;
 
 // Can the key of a model in block b go up, behind as many models as its place says and the last of them in block `used`?
 fn can_rise(place: usize, used: u8, b: u8) -> bool
@@ -50,18 +52,31 @@ pub fn block_to_lower(object: &[u8]) -> usize
     object.len()
 }
 
-// Is one of these models in block b?
-pub fn has_block(object: &[u8], b: u8) -> bool
-    ensures { λ r. ⌜ r ≡ uses b (now (object .entry)) ⌝ }
+// The key of a model in block b, behind models in the blocks 1 to `used`.
+fn key_of(used: u8, b: u8) -> u8
+    ensures { λ r. ⌜ r ≡ keyOf (ltb used b) b ⌝ }
 {
+    if used < b { 0 } else { b }
+}
+
+// The key of each model. Blocks are numbered by their smallest models, so a model is the smallest of its block just if its block is above all
+// in front: one pass tells them all.
+pub fn keys_of(object: &[u8]) -> [u8; 80]
+    requires { ⌜ length (now object) ≤ places ⌝ }
+    ensures { λ r. ⌜ (places ≡ length r) × (take (length (now (object .entry))) r ≡ keysIn 0 (now (object .entry))) ⌝ }
+{
+    let mut keys = [0u8; 80];
+    let mut used: u8 = 0;
     let mut i = 0;
     while i < object.len() {
-        if object[i] == b {
-            return true;
+        let b = object[i];
+        keys[i] = key_of(used, b);
+        if used < b {
+            used = b;
         }
         i += 1;
     }
-    false
+    keys
 }
 
 // Partitions of n models into k blocks, where their number fits.
@@ -69,8 +84,5 @@ pub fn ways(n: u64, k: u64) -> u64
     requires { ⌜ (n ≤ places) × ((k ≤ places) × (stirlingOf n k < 2 ^ 64)) ⌝ }
     ensures { λ r. ⌜ r ≡ stirlingOf n k ⌝ }
 {
-    let Count::Exactly(v) = stirling(n, k) else {
-        return 0;
-    };
-    v
+    stirling_that_fits(n, k)
 }

@@ -5,8 +5,7 @@ ghost use Prim.Native.Nat.{ℕ, suc, _+_, _≤_, _<_, _^_};
 ghost use lib.ListN.{length, getD};
 ghost use Rattle.counting.specs.Limits.{places};
 ghost use Rattle.counting.specs.Numbers.{choose};
-use counting::Count;
-use counting::binomial;
+use counting::coefficient_that_fits;
 
 pub fn wide(b: u8) -> u64
     ensures { λ r. ⌜ r ≡ b ⌝ }
@@ -58,10 +57,7 @@ pub fn ways(m: u64, k: u64) -> u64
     requires { ⌜ (m ≤ places) × ((k ≤ places) × (choose m k < 2 ^ 64)) ⌝ }
     ensures { λ r. ⌜ r ≡ choose m k ⌝ }
 {
-    let Count::Exactly(v) = binomial(m, k) else {
-        return 0;
-    };
-    v
+    coefficient_that_fits(m, k)
 }
 
 // The largest number below n out of which at most rank subsets of k can be made.

@@ -25,15 +25,15 @@ enum-known-q c = search needs
 enum-told : tie.Need-enum-told
 enum-told c = search needs
 
-exact-requires : tie.Need-exact-requires
+answer-requires : tie.Need-answer-requires
 unfolding asked isIn
-exact-requires c κs =
+answer-requires c κs =
     let pass = verdict (c .before .before .ask .ensures) (c .enum-told .given .1) in
     (admitted COUNT _ _ _ _ pass, fits-asked _ _ COUNT _ _ refl pass)
 
 returns : tie.Need-returns
 unfolding act countOf
-returns c = ap {B = Said} (λ (n : ℕ). (COUNTED n, [])) (c .exact .ensures) ∙ acts _ _ _ COUNT (verdict (c .before .before .before .ask .ensures) (c .before .enum-told .given .1))
+returns c = ap {B = Said} (λ (n : ℕ). (COUNTED n, [])) (c .answer .ensures) ∙ acts _ _ _ COUNT (verdict (c .before .before .before .ask .ensures) (c .before .enum-told .given .1))
 
 returns-2 : tie.Need-returns-2
 returns-2 c = refused _ _ _ COUNT (verdict (c .before .before .before .ask .ensures) (c .before .q .given .1))
@@ -46,6 +46,6 @@ count-spec =
     ask-requires
     enum-known-q
     enum-told
-    exact-requires
+    answer-requires
     returns
     returns-2)

@@ -1,48 +1,33 @@
--- `counting::parts::entry` meets its contract: the table, compared once as a whole with the rows as they are computed, has the count at each entry.
+-- `counting::parts::entry` meets its contract: the left half of a row as it is read, the right half by the number of ones.
 -- Assumes nothing.
-use borrow.Author.Needs.{needs, scaled-fits}
-use mathlib.Core.Path.{_≡_, refl, _∙_}
-use mathlib.Core.Bool.{true}
-use mathlib.Core.List.{List}
-use Prim.Native.Nat.{ℕ, _<_}
+use mathlib.Core.Path.{_∙_}
 use native.Mathlib.Omega.{arith}
-use lib.Dec.{lit<}
-use Rattle.counting.proofs.PartitionTable.{partitionRows, partition-at}
-use Rattle.counting.proofs.Tables.{same, carried}
-use Rattle.counting.proofs.TriangleIndex.{place-le}
+use borrow.Author.Needs.{needs}
+use Rattle.counting.proofs.PartitionLaws.{many-parts}
 use Rattle.counting.proofs.parts.entry.Statement.{statement}
 use Rattle.counting.proofs.parts.entry.Tie as tie
-use Rattle.counting.proofs.parts.entry.Reads as reads
-use Rattle.counting.proofs.parts.entry.Lts as lts
-use Rattle.counting.proofs.place.Reads as place-reads
 
-place-requires : tie.Need-place-requires
-place-requires c κs = search needs
+mul-if1 : tie.Need-mul-if1
+mul-if1 c = search needs
 
-inside : (c : tie.After-place) → c .place .result < 3321
-inside c =
-    let a = c .before .args in
-    omega (arith, c .place .ensures, place-le (a .n) 80 (a .k) (c .before .pre .0) (c .before .pre .1))
+sub-m : tie.Need-sub-m
+sub-m c = search needs
 
-mul-result : tie.Need-mul-result
-mul-result c = scaled-fits (c .place .result) 3321 8 (inside c) (lit< tt)
+mul-left : tie.Need-mul-left
+mul-left c = search needs
 
-array-read-result : tie.Need-array-read-result
-array-read-result c = inside c
-
--- PARTS as the function holds it, after the result, n, k and `at`
-abbrev table : tie.After-place → List ℕ
-table c = lts.m7 (place-reads.Asked, place-reads.Learnt) reads.Pre reads.Post (c .before) (lts.After-place·gave (place-reads.Asked, place-reads.Learnt) reads.Pre reads.Post c) .1 .1 .1 .1 .0
-
--- the test: each number is what the rows before make of it
-tested : (c : tie.After-place) → same (table c) (partitionRows 81) ≡ true
-unfolding same partitionRows
-tested c = refl
+left-requires : tie.Need-left-requires
+left-requires c κs = search needs
 
 returns : tie.Need-returns
-returns c =
-    let a = c .before .args in
-    carried (table c) (partitionRows 81) (tested c) (c .place .ensures) ∙ partition-at 81 (a .n) (a .k) (omega arith) (omega arith)
+returns c = let a = c .before .before .args in c .left .ensures ∙ many-parts (a .n) (a .k) (c .before .before .pre .1) (omega arith)
+
+left-requires-2 : tie.Need-left-requires-2
+left-requires-2 c κs = search needs
+
+returns-2 : tie.Need-returns-2
+returns-2 c = search needs
 
 pub entry-spec : {M : Type 1} → statement M
-entry-spec = tie.close (tie.spec place-requires mul-result array-read-result returns)
+entry-spec =
+    tie.close (tie.spec mul-if1 sub-m mul-left left-requires returns left-requires-2 returns-2)

@@ -99,14 +99,14 @@ wide-requires c κs = tt
 add-length : tie.Need-add-length Inv-loop μ-loop
 add-length c = omega (arith, c .before .shared-slice-known2 .given (c .before .before .before .loop .i - 1), total-drop-le (c .before .before .before .before .before .args .counts .now) (c .before .before .before .loop .i))
 
-binomial-requires : tie.Need-binomial-requires Inv-loop μ-loop
-binomial-requires c κs = tt
+coefficient-requires : tie.Need-coefficient-requires Inv-loop μ-loop
+coefficient-requires c κs = tt
 
 enum-known-ways : tie.Need-enum-known-ways Inv-loop μ-loop
 enum-known-ways c = search needs
 
 returns : tie.Need-returns Inv-loop μ-loop
-returns c = factor-stop (c .before .before .before .before .before .loop .inv) (c .before .before .before .before .before .before .before .pre) (c .before .before .before .before .loop-test .taken) (c .before .before .wide .ensures) (c .before .binomial .ensures) (c .match .keys2)
+returns c = factor-stop (c .before .before .before .before .before .loop .inv) (c .before .before .before .before .before .before .before .pre) (c .before .before .before .before .loop-test .taken) (c .before .before .wide .ensures) (c .before .coefficient .ensures) (c .match .keys2)
 
 times-requires : tie.Need-times-requires Inv-loop μ-loop
 times-requires c κs = tt
@@ -116,14 +116,14 @@ enum-known-more c = search needs
 
 returns-2 : tie.Need-returns-2 Inv-loop μ-loop
 returns-2 c =
-    product-stop (c .before .before .before .before .before .before .before .before .before .loop .inv) (c .before .before .before .before .before .before .before .before .before .before .before .pre) (c .before .before .before .before .before .before .before .before .loop-test .taken) (c .before .before .before .before .before .before .wide .ensures) (c .before .before .before .before .before .binomial .ensures) (c .before .before .before .ways .given .1) (c .before .times .ensures) (c .match2 .keys2)
+    product-stop (c .before .before .before .before .before .before .before .before .before .loop .inv) (c .before .before .before .before .before .before .before .before .before .before .before .pre) (c .before .before .before .before .before .before .before .before .loop-test .taken) (c .before .before .before .before .before .before .wide .ensures) (c .before .before .before .before .before .coefficient .ensures) (c .before .before .before .ways .given .1) (c .before .times .ensures) (c .match2 .keys2)
 
 loop-less : tie.Need-loop-less Inv-loop μ-loop
 loop-less c = omega arith
 
 loop-again : tie.Need-loop-again Inv-loop μ-loop
 loop-again c =
-    turn (c .before .before .before .before .before .before .before .before .before .before .before .loop .inv) (c .before .before .before .before .before .before .before .before .before .before .before .before .before .pre) (c .before .before .before .before .before .before .before .before .before .before .loop-test .taken) (c .before .before .before .before .before .before .before .before .wide .ensures) (c .before .before .before .before .before .before .before .binomial .ensures) (c .before .before .before .before .before .ways .given .1) (c .before .before .before .times .ensures) (c .before .more .given .1)
+    turn (c .before .before .before .before .before .before .before .before .before .before .before .loop .inv) (c .before .before .before .before .before .before .before .before .before .before .before .before .before .pre) (c .before .before .before .before .before .before .before .before .before .before .loop-test .taken) (c .before .before .before .before .before .before .before .before .wide .ensures) (c .before .before .before .before .before .before .before .coefficient .ensures) (c .before .before .before .before .before .ways .given .1) (c .before .before .before .times .ensures) (c .before .more .given .1)
 
 returns-3 : tie.Need-returns-3 Inv-loop μ-loop
 returns-3 c = done (c .before .loop .inv) (c .loop-test .left)
@@ -139,7 +139,7 @@ of-binomials-spec =
     shared-slice-read-wide
     wide-requires
     add-length
-    binomial-requires
+    coefficient-requires
     enum-known-ways
     returns
     times-requires

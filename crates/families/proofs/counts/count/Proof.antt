@@ -11,8 +11,8 @@ use Rattle.families.proofs.CountAnswers.{answer-within}
 use Rattle.families.proofs.counts.count.Statement.{statement}
 use Rattle.families.proofs.counts.count.Tie as tie
 
-binomial-requires : tie.Need-binomial-requires
-binomial-requires c κs = tt
+coefficient-requires : tie.Need-coefficient-requires
+coefficient-requires c κs = tt
 
 multinomial-requires : tie.Need-multinomial-requires
 multinomial-requires c κs = tt
@@ -33,7 +33,7 @@ returns : tie.Need-returns
 unfolding numberOf bounds kindOf
 returns c =
     let a = of-kind _ _ (ap kindOf (c .before .match .keys1)) (c .before .before .before .pre) in
-    answer-within (c .binomial .ensures) (a .bounded) (a .counted)
+    answer-within (c .coefficient .ensures) (a .bounded) (a .counted)
 
 returns-2 : tie.Need-returns-2
 unfolding numberOf bounds kindOf
@@ -73,7 +73,7 @@ pub count-spec : {M : Type 1} → statement M
 count-spec =
     tie.close
     (tie.spec
-    binomial-requires
+    coefficient-requires
     multinomial-requires
     factorial-requires
     stirling-requires

@@ -1,0 +1,283 @@
+/* Times COUNT, NEXT, PREVIOUS, RANK and UNRANK on random objects, in the library and beside it, in one run. With `count` as its argument it
+ * runs every measurement once, for callgrind to count instructions. Prints one line a measurement: family, call, who, nanoseconds a call. */
+#include "../include/arrangements.h"
+#include "others.h"
+#include "plain.h"
+#include <stdio.h>
+#include <stdlib.h>
+#include <string.h>
+#include <time.h>
+#include <valgrind/callgrind.h>
+
+enum { POOL = 256, PLACES = 80 };
+
+typedef struct {
+    const char *name; /* the family, as the table shows it */
+    const char *pool; /* which objects: random ones, or the one that costs most */
+    uint64_t kind, n, k;
+    uint8_t counts[PLACES];
+    size_t letters, len;
+    int ranks; /* does the count fit? */
+} Family;
+
+typedef enum { COUNT, NEXT, PREVIOUS, RANK, UNRANK } Call;
+typedef enum { LIBRARY, PLAIN, CPP, GSL } Who;
+
+static const char *const CALLS[] = {"COUNT", "NEXT", "PREVIOUS", "RANK", "UNRANK"};
+static const char *const WHO[] = {"library", "plain", "c++", "gsl"};
+
+static uint8_t pool[POOL][PLACES];
+static uint64_t ranks[POOL];
+static volatile uint64_t sink;
+
+static uint64_t state = 0x9E3779B97F4A7C15u;
+
+static uint64_t random_number(void) {
+    state ^= state << 13;
+    state ^= state >> 7;
+    state ^= state << 17;
+    return state * 0x2545F4914F6CDD1Du;
+}
+
+static void shuffle(uint8_t *x, size_t len) {
+    for (size_t i = len; i > 1; i--) {
+        size_t j = random_number() % i;
+        uint8_t a = x[i - 1];
+        x[i - 1] = x[j];
+        x[j] = a;
+    }
+}
+
+static void random_subset(const Family *f, uint8_t *x) {
+    size_t at = 0;
+    for (uint64_t v = 1; v <= f->n; v++)
+        if (random_number() % (f->n - v + 1) < f->k - at) x[at++] = (uint8_t)v;
+}
+
+static void random_word(const Family *f, uint8_t *x) {
+    size_t at = 0;
+    for (size_t i = 0; i < (f->kind == 2 ? f->letters : f->n); i++)
+        for (int c = f->kind == 2 ? f->counts[i] : 1; c > 0; c--) x[at++] = (uint8_t)(i + 1);
+    shuffle(x, at);
+}
+
+/* Every block gets a model and the others go anywhere; then the blocks are numbered by their smallest models. */
+static void random_blocks(const Family *f, uint8_t *x) {
+    uint8_t number[PLACES + 1] = {0}, used = 0;
+    for (size_t i = 0; i < f->n; i++) x[i] = (uint8_t)(i < f->k ? i + 1 : random_number() % f->k + 1);
+    shuffle(x, f->n);
+    for (size_t i = 0; i < f->n; i++) {
+        if (number[x[i]] == 0) number[x[i]] = ++used;
+        x[i] = number[x[i]];
+    }
+}
+
+/* The cycle lemma: of the turns of n + 1 zeros and n ones one is a Dyck word and a 0. */
+static void random_dyck(const Family *f, uint8_t *x) {
+    uint8_t w[PLACES + 1], turned[PLACES + 1];
+    size_t len = 2 * f->n + 1, start = 0;
+    int height = 0, least = 0;
+    for (size_t i = 0; i < len; i++) w[i] = i < f->n;
+    shuffle(w, len);
+    for (size_t i = 0; i < len; i++) {
+        height += w[i] ? 1 : -1;
+        if (height < least) {
+            least = height;
+            start = i + 1;
+        }
+    }
+    for (size_t i = 0; i < len; i++) turned[i] = w[(start + i) % len];
+    memcpy(x, turned, len - 1);
+}
+
+/* The object whose NEXT looks at and writes the most. */
+static void costly(const Family *f, uint8_t *x) {
+    size_t k = f->len;
+    for (size_t i = 0; i < k; i++) switch (f->kind) {
+        case 1: x[i] = (uint8_t)(i + 1 < k || f->n == k ? i + 1 : f->n - 1); break;
+        case 2: case 3: x[i] = (uint8_t)(i == 0 ? 1 : k - i + 1); break;
+        case 4: x[i] = (uint8_t)(i + 1 == k ? 1 : i < f->k ? i + 1 : f->k); break;
+        case 5: x[i] = (uint8_t)(f->n / k + (i < f->n % k)); break;
+        default: x[i] = i < k / 2;
+        }
+}
+
+static void fill_pool(const Family *f) {
+    uint64_t count = 0;
+    if (f->ranks) plain_count(f->kind, f->n, f->k, f->counts, f->letters, &count);
+    for (int i = 0; i < POOL; i++) {
+        ranks[i] = count ? random_number() % count : 0;
+        if (f->pool[0] == 'c') costly(f, pool[i]);
+        else if (f->kind == 1) random_subset(f, pool[i]);
+        else if (f->kind == 2 || f->kind == 3) random_word(f, pool[i]);
+        else if (f->kind == 4) random_blocks(f, pool[i]);
+        else if (f->kind == 5) plain_unrank(5, f->n, f->k, f->counts, 0, ranks[i], pool[i], f->len);
+        else random_dyck(f, pool[i]);
+        gsl_take(i, pool[i], f->len);
+    }
+}
+
+/* One call on one object of the pool. The bytes are copied first, for everybody. */
+static uint64_t call(Who who, Call c, const Family *f, int i, uint8_t *x) {
+    uint64_t value = 0;
+    uint32_t code = 0;
+    const uint8_t *counts = f->counts;
+    memcpy(x, pool[i], PLACES);
+    if (who == LIBRARY) switch (c) {
+        case COUNT: code = arrangement_count(f->kind, f->n, f->k, counts, f->letters, &value); break;
+        case NEXT: code = arrangement_next(f->kind, f->n, f->k, counts, f->letters, x, f->len); break;
+        case PREVIOUS: code = arrangement_previous(f->kind, f->n, f->k, counts, f->letters, x, f->len); break;
+        case RANK: code = arrangement_rank(f->kind, f->n, f->k, counts, f->letters, x, f->len, &value); break;
+        case UNRANK: code = arrangement_unrank(f->kind, f->n, f->k, counts, f->letters, ranks[i], x, f->len); break;
+        }
+    else if (who == PLAIN) switch (c) {
+        case COUNT: code = plain_count(f->kind, f->n, f->k, counts, f->letters, &value); break;
+        case NEXT: code = plain_next(f->kind, f->n, f->k, counts, f->letters, x, f->len); break;
+        case PREVIOUS: code = plain_previous(f->kind, f->n, f->k, counts, f->letters, x, f->len); break;
+        case RANK: code = plain_rank(f->kind, f->n, f->k, counts, f->letters, x, f->len, &value); break;
+        case UNRANK: code = plain_unrank(f->kind, f->n, f->k, counts, f->letters, ranks[i], x, f->len); break;
+        }
+    else if (who == CPP) code = c == NEXT ? cpp_next(x, f->len) : cpp_previous(x, f->len);
+    else code = gsl_step((int)f->kind, c == NEXT, i, f->n, f->len);
+    return value + code;
+}
+
+/* The library and the plain implementation must agree on every call that is timed. */
+static void agree(const Family *f, Call c) {
+    uint8_t a[PLACES], b[PLACES];
+    for (int i = 0; i < POOL; i++) {
+        uint64_t u = call(LIBRARY, c, f, i, a), v = call(PLAIN, c, f, i, b);
+        if (u != v || memcmp(a, b, f->len) != 0) {
+            fprintf(stderr, "%s of %s: the plain implementation differs at object %d (%llu, %llu)\n", CALLS[c], f->name, i, (unsigned long long)u, (unsigned long long)v);
+            exit(1);
+        }
+    }
+}
+
+static double now(void) {
+    struct timespec t;
+    clock_gettime(CLOCK_MONOTONIC, &t);
+    return (double)t.tv_sec * 1e9 + (double)t.tv_nsec;
+}
+
+static void whole_pool(Who who, Call c, const Family *f, int times) {
+    uint8_t x[PLACES];
+    uint64_t sum = 0;
+    for (int t = 0; t < times; t++)
+        for (int i = 0; i < POOL; i++) sum += call(who, c, f, i, x);
+    sink = sum;
+}
+
+/* Nanoseconds a call of each: the best of nine rounds of about 4 milliseconds each, in turn, so that a slower moment of the machine meets all. */
+static void timed(const Who *who, int number, Call c, const Family *f, double *best) {
+    int times[4];
+    for (int w = 0; w < number; w++) {
+        double from = now();
+        whole_pool(who[w], c, f, 4);
+        times[w] = (int)(4e6 / ((now() - from) / 4 + 1)) + 1;
+        best[w] = 1e18;
+    }
+    for (int round = 0; round < 9; round++)
+        for (int w = 0; w < number; w++) {
+            double from = now();
+            whole_pool(who[w], c, f, times[w]);
+            double each = (now() - from) / times[w] / POOL;
+            if (each < best[w]) best[w] = each;
+        }
+}
+
+static void counted(Who who, Call c, const Family *f) {
+    char label[160];
+    snprintf(label, sizeof label, "%s|%s|%s|%s", f->name, f->pool, CALLS[c], WHO[who]);
+    CALLGRIND_ZERO_STATS;
+    whole_pool(who, c, f, 1);
+    CALLGRIND_DUMP_STATS_AT(label);
+}
+
+static void measure(const Who *who, int number, Call c, const Family *f, int counting) {
+    double best[4];
+    if (!counting) timed(who, number, c, f, best);
+    for (int w = 0; w < number; w++) {
+        if (counting)
+            counted(who[w], c, f);
+        else
+            printf("%s|%s|%s|%s|%.2f\n", f->name, f->pool, CALLS[c], WHO[who[w]], best[w]);
+    }
+}
+
+static const Family FAMILIES[] = {
+    {"1 subsets (8, 4)", "random", 1, 8, 4, {0}, 0, 4, 1},
+    {"1 subsets (40, 20)", "random", 1, 40, 20, {0}, 0, 20, 1},
+    {"1 subsets (67, 33)", "random", 1, 67, 33, {0}, 0, 33, 1},
+    {"1 subsets (80, 21)", "random", 1, 80, 21, {0}, 0, 21, 1},
+    {"1 subsets (80, 40)", "random", 1, 80, 40, {0}, 0, 40, 0},
+    {"2 anagrams 3 2 2 1", "random", 2, 4, 0, {3, 2, 2, 1}, 4, 8, 1},
+    {"2 anagrams 10 times 2", "random", 2, 10, 0, {2, 2, 2, 2, 2, 2, 2, 2, 2, 2}, 10, 20, 1},
+    {"2 anagrams 70 5 3 2", "random", 2, 4, 0, {70, 5, 3, 2}, 4, 80, 1},
+    {"2 anagrams 16 times 5", "random", 2, 16, 0, {5, 5, 5, 5, 5, 5, 5, 5, 5, 5, 5, 5, 5, 5, 5, 5}, 16, 80, 0},
+    {"3 permutations 8", "random", 3, 8, 0, {0}, 0, 8, 1},
+    {"3 permutations 14", "random", 3, 14, 0, {0}, 0, 14, 1},
+    {"3 permutations 20", "random", 3, 20, 0, {0}, 0, 20, 1},
+    {"3 permutations 80", "random", 3, 80, 0, {0}, 0, 80, 0},
+    {"4 set partitions (8, 3)", "random", 4, 8, 3, {0}, 0, 8, 1},
+    {"4 set partitions (16, 5)", "random", 4, 16, 5, {0}, 0, 16, 1},
+    {"4 set partitions (26, 9)", "random", 4, 26, 9, {0}, 0, 26, 1},
+    {"4 set partitions (80, 75)", "random", 4, 80, 75, {0}, 0, 80, 1},
+    {"4 set partitions (80, 40)", "random", 4, 80, 40, {0}, 0, 80, 0},
+    {"5 integer partitions (12, 4)", "random", 5, 12, 4, {0}, 0, 4, 1},
+    {"5 integer partitions (40, 10)", "random", 5, 40, 10, {0}, 0, 10, 1},
+    {"5 integer partitions (80, 18)", "random", 5, 80, 18, {0}, 0, 18, 1},
+    {"5 integer partitions (80, 60)", "random", 5, 80, 60, {0}, 0, 60, 1},
+    {"6 Dyck words 5", "random", 6, 5, 0, {0}, 0, 10, 1},
+    {"6 Dyck words 18", "random", 6, 18, 0, {0}, 0, 36, 1},
+    {"6 Dyck words 36", "random", 6, 36, 0, {0}, 0, 72, 1},
+    {"6 Dyck words 40", "random", 6, 40, 0, {0}, 0, 80, 0},
+};
+
+/* Objects whose step costs most, at doubled lengths. */
+static const Family GROWTH[] = {
+    {"1 subsets (11, 10)", "costly", 1, 11, 10, {0}, 0, 10, 1},
+    {"1 subsets (21, 20)", "costly", 1, 21, 20, {0}, 0, 20, 1},
+    {"1 subsets (41, 40)", "costly", 1, 41, 40, {0}, 0, 40, 1},
+    {"1 subsets (80, 79)", "costly", 1, 80, 79, {0}, 0, 79, 1},
+    {"3 permutations 10", "costly", 3, 10, 0, {0}, 0, 10, 1},
+    {"3 permutations 20", "costly", 3, 20, 0, {0}, 0, 20, 1},
+    {"3 permutations 40", "costly", 3, 40, 0, {0}, 0, 40, 0},
+    {"3 permutations 80", "costly", 3, 80, 0, {0}, 0, 80, 0},
+    {"4 set partitions (10, 9)", "costly", 4, 10, 9, {0}, 0, 10, 1},
+    {"4 set partitions (20, 19)", "costly", 4, 20, 19, {0}, 0, 20, 1},
+    {"4 set partitions (40, 39)", "costly", 4, 40, 39, {0}, 0, 40, 1},
+    {"4 set partitions (80, 79)", "costly", 4, 80, 79, {0}, 0, 80, 1},
+    {"5 integer partitions (15, 10)", "costly", 5, 15, 10, {0}, 0, 10, 1},
+    {"5 integer partitions (30, 20)", "costly", 5, 30, 20, {0}, 0, 20, 1},
+    {"5 integer partitions (60, 40)", "costly", 5, 60, 40, {0}, 0, 40, 1},
+    {"5 integer partitions (80, 79)", "costly", 5, 80, 79, {0}, 0, 79, 1},
+    {"6 Dyck words 5", "costly", 6, 5, 0, {0}, 0, 10, 1},
+    {"6 Dyck words 10", "costly", 6, 10, 0, {0}, 0, 20, 1},
+    {"6 Dyck words 20", "costly", 6, 20, 0, {0}, 0, 40, 1},
+    {"6 Dyck words 40", "costly", 6, 40, 0, {0}, 0, 80, 0},
+};
+
+static void all_calls(const Family *f, int counting) {
+    fill_pool(f);
+    for (Call c = COUNT; c <= UNRANK; c++) {
+        if (!f->ranks && c != NEXT && c != PREVIOUS) continue;
+        if (f->pool[0] == 'c' && c == COUNT) continue;
+        agree(f, c);
+        Who who[4] = {LIBRARY, PLAIN};
+        int number = 2, steps = c == NEXT || c == PREVIOUS;
+        if (steps && (f->kind == 2 || f->kind == 3)) who[number++] = CPP;
+#ifdef WITH_GSL
+        if (steps && (f->kind == 1 || f->kind == 3)) who[number++] = GSL;
+#endif
+        measure(who, number, c, f, counting);
+    }
+}
+
+int main(int argc, char **argv) {
+    int counting = argc > 1 && strcmp(argv[1], "count") == 0;
+    plain_prepare();
+    for (size_t i = 0; i < sizeof FAMILIES / sizeof *FAMILIES; i++) all_calls(&FAMILIES[i], counting);
+    for (size_t i = 0; i < sizeof GROWTH / sizeof *GROWTH; i++) all_calls(&GROWTH[i], counting);
+    return 0;
+}

@@ -1,0 +1,2 @@
+-- The numbers of the table.
+pub mod Table

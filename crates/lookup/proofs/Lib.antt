@@ -1,0 +1,3 @@
+-- The laws of tables in pieces.
+pub mod Past
+pub mod Flat
