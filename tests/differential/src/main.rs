@@ -4,7 +4,7 @@
 mod reference;
 
 use arrangements_example::Family;
-use reference::{refusal, Kind, Tables};
+use reference::{refusal, Kind, Tables, LARGE};
 use std::cmp::Ordering;
 
 struct Random(u64);
@@ -56,6 +56,36 @@ fn family(r: &mut Random) -> Kind {
     f
 }
 
+/// An object of a family whose ranks the reference cannot tell: the bytes shuffled, and for set partitions the blocks numbered again.
+fn shuffled(r: &mut Random, f: &Kind) -> Vec<u8> {
+    let mut x: Vec<u8> = match f.kind {
+        1 => (1..=f.n as u8).collect(),
+        4 => (0..f.n).map(|i| if i < f.k { i as u8 + 1 } else { r.below(f.k) as u8 + 1 }).collect(),
+        _ => f.letters().iter().enumerate().flat_map(|(i, &c)| vec![i as u8 + 1; c]).collect(),
+    };
+    for i in (1..x.len()).rev() {
+        x.swap(i, r.below(i as u64 + 1) as usize);
+    }
+    match f.kind {
+        1 => {
+            x.truncate(f.k as usize);
+            x.sort();
+        }
+        4 => {
+            let mut firsts: Vec<u8> = vec![];
+            for b in x.iter_mut() {
+                let at = firsts.iter().position(|a| a == b).unwrap_or(firsts.len());
+                if at == firsts.len() {
+                    firsts.push(*b);
+                }
+                *b = at as u8 + 1;
+            }
+        }
+        _ => {}
+    }
+    x
+}
+
 /// A buffer: an object, an object with a byte changed, or any bytes of some length.
 fn buffer(r: &mut Random, t: &Tables, f: &Kind, usable: bool) -> Vec<u8> {
     if !usable || r.below(12) == 0 {
@@ -67,7 +97,7 @@ fn buffer(r: &mut Random, t: &Tables, f: &Kind, usable: bool) -> Vec<u8> {
         1 => count - 1,
         _ => (((r.next() as u128) << 40) ^ r.next() as u128) % count,
     };
-    let mut x = f.unrank(t, rank);
+    let mut x = if count >= LARGE && f.kind < 5 && r.below(4) > 0 { shuffled(r, f) } else { f.unrank(t, rank) };
     match r.below(10) {
         0 if !x.is_empty() => {
             let i = r.below(x.len() as u64) as usize;
@@ -86,10 +116,14 @@ fn describe(f: &Kind, call: &str, rank: u64, x: &[u8]) -> String {
     format!("{call} on kind {} n {} k {} counts {:?} rank {rank} bytes {x:?}", f.kind, f.n, f.k, f.counts)
 }
 
-/// Is y just after x? y is a larger object, and its rank is one more. In families of 2^99 objects and more, where the reference's ranks stop,
-/// only the first half is compared.
+/// Is y just after x? y is a larger object, and its rank is one more; in a family whose ranks the reference cannot tell, among the objects that
+/// share what x and y have in common behind (or in front of) all their differences.
 fn is_next(t: &Tables, f: &Kind, x: &[u8], y: &[u8]) -> bool {
-    f.holds(y) && f.order(x, y) == Ordering::Less && (f.count(t) >= 1 << 99 || f.rank(t, y) == f.rank(t, x) + 1)
+    if !f.holds(y) || f.order(x, y) != Ordering::Less {
+        return false;
+    }
+    let (g, a, b) = if f.count(t) < LARGE { (f.clone(), x.to_vec(), y.to_vec()) } else { f.narrowed(x, y) };
+    g.count(t) >= LARGE || g.rank(t, &b) == g.rank(t, &a) + 1
 }
 
 fn main() {
@@ -127,10 +161,10 @@ fn main() {
             match call {
                 "COUNT" => code == 0 && value as u128 == count,
                 "FIRST" => code == 0 && y == f.unrank(&t, 0),
-                "LAST" => code == 0 && f.holds(&y) && (count >= 1 << 99 || y == f.unrank(&t, count - 1)),
-                "NEXT" if code == 100 => y == x && (count >= 1 << 99 || f.rank(&t, &x) == count - 1),
+                "LAST" => code == 0 && f.holds(&y) && (count >= LARGE || y == f.unrank(&t, count - 1)),
+                "NEXT" if code == 100 => y == x && (count >= LARGE || f.rank(&t, &x) == count - 1),
                 "NEXT" => code == 0 && is_next(&t, &f, &x, &y),
-                "PREVIOUS" if code == 100 => y == x && (count >= 1 << 99 || f.rank(&t, &x) == 0),
+                "PREVIOUS" if code == 100 => y == x && (count >= LARGE || f.rank(&t, &x) == 0),
                 "PREVIOUS" => code == 0 && is_next(&t, &f, &y, &x),
                 "RANK" => code == 0 && value as u128 == f.rank(&t, &x),
                 _ => code == 0 && y == f.unrank(&t, rank as u128),

@@ -7,6 +7,9 @@ use std::cmp::Ordering;
 /// Large enough to stand for "2^64 or more" without overflow on the way.
 const CAP: u128 = 1 << 100;
 
+/// From here on a count or a rank may be cut off.
+pub const LARGE: u128 = 1 << 99;
+
 fn add(a: u128, b: u128) -> u128 {
     (a + b).min(CAP)
 }
@@ -72,8 +75,32 @@ pub struct Kind {
 }
 
 impl Kind {
-    fn letters(&self) -> Vec<usize> {
+    pub fn letters(&self) -> Vec<usize> {
         if self.kind == 3 { vec![1; self.n as usize] } else { self.counts.iter().map(|&c| c as usize).collect() }
+    }
+
+    /// The family of the parts in which two objects differ, and these parts: what they share in front (kinds 2 and 3) or behind is left out.
+    pub fn narrowed(&self, x: &[u8], y: &[u8]) -> (Kind, Vec<u8>, Vec<u8>) {
+        match self.kind {
+            1 | 4 => {
+                let (a, b) = if self.kind == 1 { (x.to_vec(), y.to_vec()) } else { (Self::keys(x), Self::keys(y)) };
+                let end = (0..a.len()).rev().find(|&i| a[i] != b[i]).map_or(0, |i| i + 1);
+                let most = x[..end].iter().copied().max().unwrap_or(0) as u64;
+                let (n, k) = match self.kind {
+                    1 if end < x.len() => (x[end] as u64 - 1, end as u64),
+                    1 => (self.n, end as u64),
+                    _ => (end as u64, most),
+                };
+                (Kind { kind: self.kind, n, k, counts: vec![] }, x[..end].to_vec(), y[..end].to_vec())
+            }
+            2 | 3 => {
+                let start = (0..x.len()).find(|&i| x[i] != y[i]).unwrap_or(x.len());
+                let mut left: Vec<u8> = self.letters().iter().map(|&c| c as u8).collect();
+                x[..start].iter().for_each(|&a| left[a as usize - 1] -= 1);
+                (Kind { kind: 2, n: left.len() as u64, k: 0, counts: left }, x[start..].to_vec(), y[start..].to_vec())
+            }
+            _ => (self.clone(), x.to_vec(), y.to_vec()),
+        }
     }
 
     /// Questions 1 to 3.
