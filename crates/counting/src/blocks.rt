@@ -40,7 +40,7 @@ fn times(k: u64, y: u64) -> u64
     k * y
 }
 
-// The number k of row n, which is 1 or more, so that a 0 in the table can only mean "too large".
+// The number k of row n, which is 1 or more, so that a 0 from `even` can only mean "too large".
 pub fn entry(n: u64, k: u64) -> Count
     requires { ⌜ (n ≤ 80) × ((1 ≤ k) × (k ≤ n)) ⌝ }
     ensures { λ r. ⌜ r ≡ fits (stirlingOf n k) ⌝ }

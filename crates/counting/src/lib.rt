@@ -1,5 +1,5 @@
-// The counts of paper 01's families, each exact or "too large". No function has a `requires`: arguments outside the limits of the
-// paper's table are answered by a case of their own.
+// The counts of paper 01's families, each exact or "too large". They answer any arguments: those outside the limits of the paper's table by a
+// case of their own. Only the functions "that fit", for ranks, have a `requires`, which their callers show.
 ghost use mathlib.Core.Path.{_≡_};
 ghost use mathlib.Core.Bool.{_&&_};
 ghost use Prim.Native.Nat.{_+_, _*_, _/_, _≤_, _<_, _^_};
