@@ -1,6 +1,8 @@
 /* Times COUNT, NEXT, PREVIOUS, RANK and UNRANK on random objects, in the library and beside it, in one run. With `count` as its argument it
- * runs every measurement once, for callgrind to count instructions. Prints one line a measurement: family, call, who, nanoseconds a call. */
+ * runs every measurement once, for callgrind to count instructions. Prints one line a measurement: family, call, who, nanoseconds a call. An earlier
+ * build of the library may be linked beside today's, its functions renamed (`before.h`). */
 #include "../include/arrangements.h"
+#include "before.h"
 #include "others.h"
 #include "plain.h"
 #include <stdio.h>
@@ -21,10 +23,12 @@ typedef struct {
 } Family;
 
 typedef enum { COUNT, NEXT, PREVIOUS, RANK, UNRANK } Call;
-typedef enum { LIBRARY, PLAIN, CPP, GSL } Who;
+typedef enum { LIBRARY, BEFORE, PLAIN, CPP, GSL } Who;
 
 static const char *const CALLS[] = {"COUNT", "NEXT", "PREVIOUS", "RANK", "UNRANK"};
-static const char *const WHO[] = {"library", "plain", "c++", "gsl"};
+static const char *const WHO[] = {"library", "before", "plain", "c++", "gsl"};
+
+enum { MOST = 5 }; /* how many can be measured beside each other */
 
 static uint8_t pool[POOL][PLACES];
 static uint64_t ranks[POOL];
@@ -130,6 +134,13 @@ static uint64_t call(Who who, Call c, const Family *f, int i, uint8_t *x) {
         case RANK: code = arrangement_rank(f->kind, f->n, f->k, counts, f->letters, x, f->len, &value); break;
         case UNRANK: code = arrangement_unrank(f->kind, f->n, f->k, counts, f->letters, ranks[i], x, f->len); break;
         }
+    else if (who == BEFORE) switch (c) {
+        case COUNT: code = before_count(f->kind, f->n, f->k, counts, f->letters, &value); break;
+        case NEXT: code = before_next(f->kind, f->n, f->k, counts, f->letters, x, f->len); break;
+        case PREVIOUS: code = before_previous(f->kind, f->n, f->k, counts, f->letters, x, f->len); break;
+        case RANK: code = before_rank(f->kind, f->n, f->k, counts, f->letters, x, f->len, &value); break;
+        case UNRANK: code = before_unrank(f->kind, f->n, f->k, counts, f->letters, ranks[i], x, f->len); break;
+        }
     else if (who == PLAIN) switch (c) {
         case COUNT: code = plain_count(f->kind, f->n, f->k, counts, f->letters, &value); break;
         case NEXT: code = plain_next(f->kind, f->n, f->k, counts, f->letters, x, f->len); break;
@@ -170,7 +181,7 @@ static void whole_pool(Who who, Call c, const Family *f, int times) {
 
 /* Nanoseconds a call of each: the best of nine rounds of about 4 milliseconds each, in turn, so that a slower moment of the machine meets all. */
 static void timed(const Who *who, int number, Call c, const Family *f, double *best) {
-    int times[4];
+    int times[MOST];
     for (int w = 0; w < number; w++) {
         double from = now();
         whole_pool(who[w], c, f, 4);
@@ -195,7 +206,7 @@ static void counted(Who who, Call c, const Family *f) {
 }
 
 static void measure(const Who *who, int number, Call c, const Family *f, int counting) {
-    double best[4];
+    double best[MOST];
     if (!counting) timed(who, number, c, f, best);
     for (int w = 0; w < number; w++) {
         if (counting)
@@ -264,8 +275,11 @@ static void all_calls(const Family *f, int counting) {
         if (!f->ranks && c != NEXT && c != PREVIOUS) continue;
         if (f->pool[0] == 'c' && c == COUNT) continue;
         agree(f, c);
-        Who who[4] = {LIBRARY, PLAIN};
+        Who who[MOST] = {LIBRARY, PLAIN};
         int number = 2, steps = c == NEXT || c == PREVIOUS;
+#ifdef WITH_BEFORE
+        who[number++] = BEFORE;
+#endif
         if (steps && (f->kind == 2 || f->kind == 3)) who[number++] = CPP;
 #ifdef WITH_GSL
         if (steps && (f->kind == 1 || f->kind == 3)) who[number++] = GSL;

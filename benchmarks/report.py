@@ -8,7 +8,7 @@ import sys
 POOL = 256
 out = sys.argv[1]
 times, counts = {}, {}
-for name in ("times", "interpreted"):
+for name in ("times", "interpreted", "systems"):
     for line in open(f"{out}/{name}"):
         family, pool, call, who, ns = line.rstrip("\n").split("|")
         times[family, pool, call, who] = float(ns)
@@ -22,6 +22,7 @@ for path in glob.glob(f"{out}/callgrind.*"):
 interpreted = next((w for (_, _, _, w) in times if w.startswith("sympy")), None)
 families = list(dict.fromkeys((f, p) for (f, p, _, w) in times if w == "library"))
 calls = ("COUNT", "NEXT", "PREVIOUS", "RANK", "UNRANK")
+earlier = any(w == "before" for (_, _, _, w) in times)
 
 
 def ratio(a, b):
@@ -41,8 +42,9 @@ def shell(command):
 
 
 def comparison():
-    say("| family | call | library, ns | plain C, ns | library / plain | instructions | plain's | ratio | C++ | GSL | SymPy | SymPy / library |")
-    say("|---|---|---:|---:|---:|---:|---:|---:|---:|---:|---:|---:|")
+    before = " before, ns | before's instructions |" if earlier else ""
+    say(f"| family | call | library, ns | plain C, ns | library / plain | instructions | plain's | ratio |{before} C++ | GSL | PARI, GAP | SymPy | SymPy / library |")
+    say("|---|---|---:|---:|---:|---:|---:|---:|" + ("---:|---:|" if earlier else "") + "---:|---:|---:|---:|---:|")
     for family, pool in families:
         if pool != "random":
             continue
@@ -52,8 +54,10 @@ def comparison():
             if lib is None:
                 continue
             a, b = counts.get((*at, "library")), counts.get((*at, "plain"))
+            before = f" {ns(times.get((*at, 'before')))} | {ns(counts.get((*at, 'before')))} |" if earlier else ""
+            system = next((f"{w} {ns(times[(*at, w)])}" for w in ("PARI", "GAP") if (*at, w) in times), "")
             cpp, gsl, slow = times.get((*at, "c++")), times.get((*at, "gsl")), times.get((*at, interpreted))
-            say(f"| {family} | {call} | {ns(lib)} | {ns(plain)} | {ratio(lib, plain)} | {ns(a)} | {ns(b)} | {ratio(a, b)} | {ns(cpp)} | {ns(gsl)} | {ns(slow)} | {'' if slow is None else f'{slow / lib:,.0f}'} |")
+            say(f"| {family} | {call} | {ns(lib)} | {ns(plain)} | {ratio(lib, plain)} | {ns(a)} | {ns(b)} | {ratio(a, b)} |{before} {ns(cpp)} | {ns(gsl)} | {system} | {ns(slow)} | {'' if slow is None else f'{slow / lib:,.0f}'} |")
 
 
 def growth():
@@ -79,10 +83,22 @@ def worst(group, limit):
 def targets():
     steps, missed_steps = worst(("NEXT", "PREVIOUS"), 2)
     ranks, missed_ranks = worst(("RANK", "UNRANK"), 3)
+    close = [(counts[(f, p, c, "library")] / counts[(f, p, c, "plain")], f"{c} of {f}") for f, p in families for c in ("RANK", "UNRANK") if p == "random" and f[0] in "145" and (f, p, c, "library") in counts]
     say(f"- NEXT and PREVIOUS at most 2 times plain C: {steps}.")
     say(*[f"  - missed: {m}" for m in missed_steps])
     say(f"- RANK and UNRANK at most 3 times plain C: {ranks}.")
     say(*[f"  - missed: {m}" for m in missed_ranks])
+    say(f"- RANK and UNRANK of subsets, set partitions and integer partitions at most 2 times plain C by instructions: largest {max(close)[0]:.2f} ({max(close)[1]}).")
+    say(*[f"  - missed: {what} ({r:.2f})" for r, what in close if r > 2])
+    tables = {f: times[(f, p, "COUNT", "library")] for f, p in families if f[0] == "1" and (f, p, "COUNT", "library") in times}
+    say(f"- COUNT of subsets below 1 microsecond at every row: largest {ns(max(tables.values()))} ns ({max(tables, key=tables.get)}).")
+    for who, call in (("PARI", "UNRANK"), ("GAP", "COUNT")):
+        beside = [f"{f[2:]}: {ns(times[(f, p, call, 'library')])} against {ns(times[(f, p, call, who)])} ns" for f, p in families if (f, p, call, who) in times]
+        if beside:
+            say(f"- {call} faster than {who}'s: {'; '.join(beside)}.")
+    if earlier:
+        slower = [f"{c} of {f} ({times[(f, p, c, 'library')] / times[(f, p, c, 'before')]:.2f})" for f, p in families for c in ("RANK", "UNRANK") if p == "random" and (f, p, c, "before") in times and times[(f, p, c, "library")] > 1.05 * times[(f, p, c, "before")]]
+        say(f"- RANK and UNRANK not slower than before (5 percent are noise): {'all' if not slower else 'missed: ' + '; '.join(slower)}.")
     slow = [(times[(f, p, c, interpreted)] / times[(f, p, c, "library")], f"{c} of {f}") for f, p in families for c in ("RANK", "UNRANK") if (f, p, c, interpreted) in times]
     if slow:
         say(f"- RANK and UNRANK at least 100 times faster than interpreted: least {min(slow)[0]:,.0f} ({min(slow)[1]}).")
@@ -95,18 +111,20 @@ say("Method. `benchmarks/measure.c` calls the library (`rt staticlib exports`) a
     "every call first. A time is the best of nine rounds of some 4 ms each in turn, in nanoseconds a call, with the copy of the object that a step is\nmade on.",
     "Instructions are callgrind's for one pass over the 256, divided by 256. C++ is `next_permutation` or `prev_permutation`, which asks nothing;",
     "GSL's steps follow its validity check and go by dictionary; SymPy's are its nearest functions (all partitions rather than those with k parts;",
-    "its subsets' rank, which lists, only for the small family).", "")
+    "its subsets' rank, which lists, only for the small family). PARI's are numtoperm and permtonum, GAP's is Binomial.",
+    *(["Before is an earlier build of the library, linked beside today's and measured in turn with it."] if earlier else []), "")
 say("## Targets", "")
 targets()
 say("", "Why, by the profile:", "",
-    "- Ranks of subsets and set partitions, as paper 01 asks, and of integer partitions call themselves on the shorter object for each place. The",
-    "  compiler hands the shorter slice on through memory and makes no loop of the calls, so that each place waits for the one before.",
-    "- A Stirling number of an odd row is made of two reads and a product, and a partition count is cut out of a pair; the plain tables have every",
-    "  number. Whole tables would take the check twice as long.",
+    "- Ranks of subsets and set partitions, as paper 01 asks, call themselves on the shorter object for each place. The compiler hands the shorter",
+    "  slice on through memory and makes no loop of the calls, so that each place waits for the one before.",
+    "- The plain tables are built beforehand and have every number ready. The library has none: a coefficient is two products and a shift out of three",
+    "  literals, Stirling numbers are worked out once a call (UNRANK twice: question 8 asks for the count), and a partition number is cut out of three",
+    "  that share 64 bits; an odd column takes two of them.",
     "- A Dyck word is read by two functions that call each other, as paper 01 asks, where the plain test is a loop.",
-    "- Ranks of permutations take a division or two for each letter that is tried; SymPy's ranks of permutations are its fastest.",
-    "- COUNT of subsets reads the constant table that paper 01 asks for, which the compiler writes out at each read; for rows above 67 it reads 14",
-    "  times.")
+    "- Ranks of permutations and anagrams take a division or two for each place; SymPy's ranks of permutations are its fastest.",
+    "- COUNT of subsets reads the constant table that paper 01 asks for. The compiler writes its 2,346 numbers out on the stack where it is used, once a",
+    "  call: that alone is most of the time, and what keeps COUNT behind GAP's Binomial.")
 say("", "## Growth", "", "Instructions of the library for a call on one object, at doubled lengths.", "")
 growth()
 say("", "## All calls", "")

@@ -12,9 +12,9 @@ use native.Mathlib.Omega.{arith}
 use lib.Dec.{eqb, eqb·zero-suc, eqb·suc-suc}
 use lib.ListN.{length, getD}
 use borrow.Author.Tests.{eqb-true, eq-eqb, ne-eqb}
-use Rattle.counting.specs.Sums.{total}
-use Rattle.counting.specs.Numbers.{oneLess}
-use Rattle.counting.proofs.Laws.{total-less}
+use Rattle.numbers.specs.Sums.{total}
+use Rattle.numbers.specs.Numbers.{oneLess}
+use Rattle.numbers.proofs.Laws.{total-less}
 use Rattle.listings.specs.Bytes.{Bytes}
 use Rattle.listings.proofs.Bools.{and-true, and-makes}
 use Rattle.anagrams.specs.Objects.{occurrences, tallies, isAnagram}

@@ -8,8 +8,5 @@ pub mod Tails
 pub mod Swaps
 pub mod Moves
 pub mod Sorted
-pub mod Shares
-pub mod Placing
 pub mod Spending
-pub mod Fronts
 pub mod Ones

@@ -5,9 +5,9 @@ use mathlib.Core.Bool.{true}
 use Prim.Native.Nat.{ℕ, zero, suc}
 use native.Mathlib.Omega.{arith}
 use lib.ListN.{length}
-use Rattle.counting.specs.Sums.{total}
-use Rattle.counting.specs.Numbers.{factorialOf}
-use Rattle.counting.proofs.Laws.{multinomial-ones, total-ones}
+use Rattle.numbers.specs.Sums.{total}
+use Rattle.numbers.specs.Numbers.{factorialOf}
+use Rattle.numbers.proofs.Laws.{multinomial-ones, total-ones}
 use Rattle.listings.specs.Bytes.{Bytes}
 use Rattle.listings.specs.Listings.{Listing}
 use Rattle.anagrams.specs.Objects.{anagramBefore}

@@ -9,7 +9,7 @@ use native.Mathlib.Omega.{arith}
 use lib.Dec.{eqb}
 use lib.ListN.{length, getD}
 use borrow.Author.Tests.{eqb-true}
-use Rattle.counting.specs.Numbers.{oneLess}
+use Rattle.numbers.specs.Numbers.{oneLess}
 use Rattle.listings.specs.Bytes.{Bytes}
 use Rattle.listings.proofs.Bools.{and-true}
 use Rattle.anagrams.specs.Objects.{occurrences, tallies, isAnagram}

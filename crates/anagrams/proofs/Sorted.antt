@@ -11,10 +11,10 @@ use lib.ListN.{length, getD, take, drop, replicate, length-append, length-replic
 use lib.Seq.{take-all, take-at, drop-cons, length-take-le}
 use borrow.Rule.Slice.PartMut.{midOf, putMid, same-len-mid}
 use borrow.Author.Tests.{le-ltb}
-use Rattle.counting.specs.Sums.{total}
-use Rattle.counting.specs.Numbers.{oneLess}
-use Rattle.counting.proofs.Laws.{total-less}
-use Rattle.counting.proofs.Totals.{total-drop, total-end}
+use Rattle.numbers.specs.Sums.{total}
+use Rattle.numbers.specs.Numbers.{oneLess}
+use Rattle.numbers.proofs.Laws.{total-less}
+use Rattle.numbers.proofs.Totals.{total-drop, total-end}
 use Rattle.listings.specs.Bytes.{Bytes}
 use Rattle.listings.specs.Listings.{none, more}
 use Rattle.listings.specs.Places.{First, Last}

@@ -5,15 +5,14 @@ use mathlib.Core.Logic.{_⊎_, inl, inr}
 use mathlib.Core.Bool.{true, false}
 use mathlib.Core.List.{List, [], _∷_}
 use Prim.Native.Nat.{ℕ, zero, suc, _+_, _-_, _≤_, _<_}
-use native.Mathlib.Nat.{lt-of-not-le}
 use native.Mathlib.Numerals.{add-one, sub-one}
 use native.Mathlib.Omega.{arith}
 use lib.Dec.{eqb}
-use lib.ListN.{length, drop, getD, set, length-drop, drop-of-length-le, List·getD-eq-default}
+use lib.ListN.{length, drop, getD, set, drop-of-length-le}
 use lib.Seq.{drop-cons}
 use borrow.Author.Tests.{eqb-true, eqb-false}
-use Rattle.counting.specs.Sums.{total}
-use Rattle.counting.specs.Numbers.{oneLess}
+use Rattle.numbers.specs.Sums.{total}
+use Rattle.numbers.specs.Numbers.{oneLess}
 use Rattle.listings.specs.Bytes.{Bytes}
 use Rattle.listings.proofs.Bools.{fails, true-or-false}
 use Rattle.anagrams.specs.Objects.{isAnagram}
@@ -35,33 +34,13 @@ module _ (cs : List ℕ) (x : Bytes) (i : ℕ) (inside : i < length x) where
   pub letter-spent : 0 < getD x i 0 → 0 < getD cs letter 0 → isAnagram cs (drop i x) ≡ isAnagram (oneLess cs letter) (drop (i + 1) x)
   letter-spent some left = rw (add-one, drop-cons x i 0 inside) (without-first cs letter (getD x i 0) (drop (suc i) x) (omega arith) left)
 
-  letter-there : isAnagram cs (drop i x) ≡ true → (0 < getD x i 0) × (0 < getD cs letter 0)
+  pub letter-there : isAnagram cs (drop i x) ≡ true → (0 < getD x i 0) × (0 < getD cs letter 0)
   letter-there o =
       let (j, e, h, _) = first-off cs (getD x i 0) (drop (suc i) x) (rw (drop-cons x i 0 inside) at o) in
       (omega arith, subst (λ k. 0 < getD cs k 0) (omega arith) h)
 
   pub no-letter : (0 < getD x i 0 → getD cs letter 0 ≡ 0) → isAnagram cs (drop i x) ≡ false
   no-letter none = fails _ (λ o. let (s, h) = letter-there o in omega (arith, none s))
-
--- a letter that is left has a place among the counts
-left-inside : (cs : List ℕ) (a : ℕ) → 0 < getD cs a 0 → a < length cs
-left-inside cs a h = lt-of-not-le (λ l. omega (arith, List·getD-eq-default cs 0 {n = a} l))
-
--- what a word of the letters left tells of the letter at place i
-pub record Turn (cs : List ℕ) (x : Bytes) (i : ℕ) : Type 0 where
-  pub some : 0 < getD x i 0
-  pub inside : getD x i 0 - 1 < length cs
-  pub left : 0 < getD cs (getD x i 0 - 1) 0
-  pub size : total cs ≡ length x - i
-  pub rest : isAnagram (oneLess cs (getD x i 0 - 1)) (drop (i + 1) x) ≡ true
-
-pub size-left : (cs : List ℕ) (x : Bytes) (i : ℕ) → isAnagram cs (drop i x) ≡ true → total cs ≡ length x - i
-size-left cs x i o = sym (long cs (drop i x) o) ∙ length-drop i x
-
-pub turn : (cs : List ℕ) (x : Bytes) (i : ℕ) → i < length x → isAnagram cs (drop i x) ≡ true → Turn cs x i
-turn cs x i h o =
-    let (s, l) = letter-there cs x i h o in
-    record { some = s; inside = left-inside cs _ l; left = l; size = size-left cs x i o; rest = sym (letter-spent cs x i h s l) ∙ o }
 
 -- at the end of the word no letter is left
 pub all-spent : (cs : List ℕ) (x : Bytes) (i : ℕ) → length x ≤ i → isAnagram cs (drop i x) ≡ eqb (total cs) 0

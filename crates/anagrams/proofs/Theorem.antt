@@ -9,9 +9,9 @@ use native.Mathlib.Omega.{arith}
 use lib.Dec.{ltb}
 use lib.ListN.{length, length-map}
 use borrow.Author.Tests.{lt-ltb, ltb-true}
-use Rattle.counting.specs.Sums.{total}
-use Rattle.counting.specs.Numbers.{multinomialOf, oneLess, lettersFrom}
-use Rattle.counting.proofs.Laws.{total-less, over-letters, letter-left, letter-has, has-letter, sumOver-cong, choose-zero}
+use Rattle.numbers.specs.Sums.{total}
+use Rattle.numbers.specs.Numbers.{multinomialOf, oneLess, lettersFrom}
+use Rattle.numbers.proofs.Laws.{total-less, over-letters, letter-left, letter-has, has-letter, sumOver-cong, choose-zero}
 use Rattle.listings.specs.Bytes.{Bytes}
 use Rattle.listings.specs.Listings.{Ascending, none, more, Listing}
 use Rattle.listings.proofs.Members.{flatMap-in, flatMap-of, length-flatMap}

@@ -2,8 +2,8 @@
 -- Assumes nothing.
 use mathlib.Core.List.{List, [], _∷_, map, flatMap}
 use Prim.Native.Nat.{ℕ, zero, suc}
-use Rattle.counting.specs.Sums.{total}
-use Rattle.counting.specs.Numbers.{oneLess, lettersFrom}
+use Rattle.numbers.specs.Sums.{total}
+use Rattle.numbers.specs.Numbers.{oneLess, lettersFrom}
 use Rattle.listings.specs.Bytes.{Bytes}
 
 -- words of m letters; letter i of the counts, from 0, is written i + 1

@@ -3,8 +3,8 @@ ghost use mathlib.Core.Path.{_≡_};
 ghost use Prim.Native.Nat.{_≤_};
 ghost use lib.Dec.{eqb};
 ghost use lib.ListN.{length, take};
-ghost use Rattle.counting.specs.Limits.{places};
-ghost use Rattle.counting.specs.Sums.{total};
+ghost use Rattle.numbers.specs.Limits.{places};
+ghost use Rattle.numbers.specs.Sums.{total};
 ghost use Rattle.anagrams.specs.Objects.{isAnagram};
 use listings::copy;
 
@@ -20,7 +20,7 @@ pub fn copied(counts: &[u8]) -> [u8; 80]
 }
 
 // Is no letter left?
-pub fn none_left(left: &[u8]) -> bool
+fn none_left(left: &[u8]) -> bool
     ensures { λ r. ⌜ r ≡ eqb (total (now (left .entry))) 0 ⌝ }
 {
     let mut i = 0;

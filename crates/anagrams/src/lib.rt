@@ -1,22 +1,20 @@
 // Kind 2: anagrams, the words with letter i (from 1) as often as counts[i - 1] says, over lent byte slices. Called by `families`, which
-// shows what each function requires. The steps need no counts.
+// shows what each function requires. Nothing here counts them: the ranks are in `anagram_ranks`.
 ghost use mathlib.Core.Path.{_≡_};
 ghost use mathlib.Core.Bool.{true};
 ghost use mathlib.Core.List.{List};
-ghost use Prim.Native.Nat.{ℕ, _≤_, _<_, _^_};
+ghost use Prim.Native.Nat.{ℕ, _≤_};
 ghost use lib.ListN.{length};
-ghost use Rattle.counting.specs.Limits.{places};
-ghost use Rattle.counting.specs.Sums.{total};
-ghost use Rattle.counting.specs.Numbers.{multinomialOf};
+ghost use Rattle.numbers.specs.Limits.{places};
+ghost use Rattle.numbers.specs.Sums.{total};
 ghost use Rattle.listings.specs.Calls.{NEXT, PREVIOUS, Said, act};
-ghost use Rattle.listings.specs.Places.{At, First, Last, countBefore};
+ghost use Rattle.listings.specs.Places.{First, Last};
 ghost use Rattle.listings.specs.Steps.{stepAs};
 ghost use Rattle.anagrams.specs.Objects.{isAnagram, anagramBefore};
 ghost use Rattle.anagrams.specs.Listing.{anagrams};
 
-mod letters;
+pub mod letters;
 pub mod permutations;
-mod ranking;
 mod stepping;
 
 use listings::Step;
@@ -68,30 +66,4 @@ pub fn previous(object: &mut [u8]) -> Step
     ensures { λ r. ⌜ ((cs : List ℕ) → isAnagram cs (now (object .entry)) ≡ true → _≡_ {A = Said} (stepAs r, now (object .exit)) (act PREVIOUS anagramBefore (anagrams cs) (now (object .entry)))) ⌝ }
 {
     stepping::step(object, false)
-}
-
-// How many words come before it.
-pub fn rank(counts: &[u8], object: &[u8]) -> u64
-    requires { ⌜ length (now counts) ≤ places ⌝ }
-    requires { ⌜ total (now counts) ≤ places ⌝ }
-    requires { ⌜ isAnagram (now counts) (now object) ≡ true ⌝ }
-    requires { ⌜ multinomialOf (now counts) < 2 ^ 64 ⌝ }
-    ensures { λ r. ⌜ r ≡ countBefore anagramBefore (now (object .entry)) (anagrams (now (counts .entry))) ⌝ }
-{
-    let mut space = letters::copied(counts);
-    let n = counts.len();
-    ranking::rank_of(&mut space[..n], ranking::all_words(counts), object)
-}
-
-// The word of a rank.
-pub fn unrank(counts: &[u8], rank: u64, object: &mut [u8])
-    requires { ⌜ length (now counts) ≤ places ⌝ }
-    requires { ⌜ (total (now counts) ≤ places) × (length (now object) ≡ total (now counts)) ⌝ }
-    requires { ⌜ multinomialOf (now counts) < 2 ^ 64 ⌝ }
-    requires { ⌜ rank < multinomialOf (now counts) ⌝ }
-    ensures { λ _. ⌜ At (anagrams (now (counts .entry))) (now (object .exit)) rank ⌝ }
-{
-    let mut space = letters::copied(counts);
-    let n = counts.len();
-    ranking::write_word(&mut space[..n], ranking::all_words(counts), rank, object);
 }

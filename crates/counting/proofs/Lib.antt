@@ -1,24 +1,2 @@
--- The proofs that belong to no one function: sums, each count's laws, the tables, and what an answer tells.
+-- The laws of the answers: what an answer tells of a count, and which answer a count has.
 pub mod Answers
-pub mod BinomialTable
-pub mod Binomials
-pub mod Capped
-pub mod CatalanTable
-pub mod Catalans
-pub mod Factorials
-pub mod Laws
-pub mod Multinomials
-pub mod PartitionLaws
-pub mod PartitionTable
-pub mod PickedRows
-pub mod Ranges
-pub mod StirlingTable
-pub mod Stirlings
-pub mod Stores
-pub mod Tables
-pub mod Totals
-pub mod TriangleIndex
-pub mod Triangles
-pub mod Weighted
-pub mod Widths
-pub mod Windows

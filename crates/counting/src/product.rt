@@ -2,9 +2,9 @@
 ghost use mathlib.Core.Path.{_≡_};
 ghost use lib.Dec.{leb};
 ghost use Prim.Native.Nat.{_≤_, _*_};
-ghost use Rattle.counting.specs.Limits.{places};
-ghost use Rattle.counting.specs.Sums.{total};
-ghost use Rattle.counting.specs.Numbers.{multinomialOf};
+ghost use Rattle.numbers.specs.Limits.{places};
+ghost use Rattle.numbers.specs.Sums.{total};
+ghost use Rattle.numbers.specs.Numbers.{multinomialOf};
 ghost use Rattle.counting.specs.Answers.{fits};
 use crate::Count;
 use crate::PLACES;

@@ -6,7 +6,7 @@ use Prim.Native.Nat.{ℕ, zero, suc, _+_, _*_, _%_}
 use native.Mathlib.Numerals.{add-one}
 use native.Mathlib.Omega.{arith}
 use lib.ListN.{replicate, replicate-append-replicate}
-use Rattle.counting.specs.Sums.{range}
+use Rattle.numbers.specs.Sums.{range}
 use Rattle.dyck_words.specs.Trees.{word}
 use Rattle.dyck_words.specs.Moves.{firstTree, lastTree}
 

@@ -5,8 +5,6 @@ pub mod TreeLists
 pub mod Theorem
 pub mod Dictionary
 pub mod Passing
-pub mod RankLaws
-pub mod Cutting
 pub mod Closing
 pub mod RowTable
 pub mod TreeSteps

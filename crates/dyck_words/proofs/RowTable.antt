@@ -8,7 +8,7 @@ use native.Mathlib.Nat.{zero-add, eq-or-lt-of-le}
 use native.Mathlib.Omega.{arith}
 use lib.ListN.{length, getD, set, replicate, length-append, length-set}
 use lib.Seq.{getD-append-add, getD-set-same, getD-set-other}
-use Rattle.counting.specs.Limits.{places}
+use Rattle.numbers.specs.Limits.{places}
 use Rattle.listings.specs.Bytes.{Bytes}
 use Rattle.dyck_words.specs.Trees.{Tree, leaf, node, word}
 use Rattle.dyck_words.specs.Reading.{RowHere, Stops, Told}

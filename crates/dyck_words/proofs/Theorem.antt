@@ -6,7 +6,7 @@ use mathlib.Core.Bool.{true}
 use mathlib.Core.List.{List·Memᴰ, Memᴰ·map, Memᴰ·of-map}
 use Prim.Native.Nat.{ℕ, _*_}
 use lib.ListN.{length, length-map}
-use Rattle.counting.specs.Numbers.{catalanOf}
+use Rattle.numbers.specs.Numbers.{catalanOf}
 use Rattle.listings.specs.Bytes.{Bytes}
 use Rattle.listings.specs.Listings.{Ascending, StrictTotal, Listing}
 use Rattle.listings.proofs.AscendingRules.{ascending-map}

@@ -9,9 +9,9 @@ use native.Mathlib.Omega.{arith}
 use lib.WfN.{Nat·lt-wfRel}
 use lib.ListN.{length, getD}
 use borrow.Author.Tests.{ltb-true}
-use Rattle.counting.specs.Sums.{range}
-use Rattle.counting.specs.Numbers.{catalanOf}
-use Rattle.counting.proofs.Laws.{convolution, catalan-zero, sumOver-cong, between, in-range}
+use Rattle.numbers.specs.Sums.{range}
+use Rattle.numbers.specs.Numbers.{catalanOf}
+use Rattle.numbers.proofs.Laws.{convolution, catalan-zero, sumOver-cong, between, in-range}
 use Rattle.listings.specs.Listings.{Ascending, none, more}
 use Rattle.listings.proofs.Members.{flatMap-in, flatMap-of, length-flatMap}
 use Rattle.listings.proofs.AscendingRules.{ascending-map, ascending-flatMap, ascending-range}

@@ -4,8 +4,8 @@ use mathlib.Core.Path.{_≡_, refl, sym, subst}
 use Prim.Native.Nat.{ℕ, zero, suc, _+_, _-_, _<_}
 use native.Mathlib.Nat.{add-zero, zero-add, add-suc, suc-add}
 use native.Mathlib.Omega.{arith}
-use Rattle.counting.specs.Sums.{range}
-use Rattle.counting.proofs.Laws.{in-range, length-range}
+use Rattle.numbers.specs.Sums.{range}
+use Rattle.numbers.proofs.Laws.{in-range, length-range}
 use Rattle.listings.specs.Places.{At, Follows, First, Last}
 use Rattle.listings.proofs.LoehrRules.{follows-pairs-inside, follows-pairs-seam, first-pairs, last-pairs}
 use Rattle.listings.proofs.PlaceRules.{follows-flatMap-inside, follows-flatMap-seam, first-flatMap, last-flatMap}

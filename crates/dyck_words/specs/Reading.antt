@@ -3,11 +3,9 @@
 use mathlib.Core.Path.{_≡_}
 use mathlib.Core.Bool.{false}
 use mathlib.Core.List.{[], _∷_, _++_}
-use Prim.Native.Nat.{ℕ, zero, suc, _+_, _*_, _-_, _≤_, _<_}
+use Prim.Native.Nat.{ℕ, zero, suc, _+_, _-_, _≤_, _<_}
 use lib.ListN.{length, getD, drop}
-use Rattle.counting.specs.Limits.{places}
-use Rattle.counting.specs.Sums.{range, sumOver}
-use Rattle.counting.specs.Numbers.{catalanOf}
+use Rattle.numbers.specs.Limits.{places}
 use Rattle.listings.specs.Bytes.{Bytes}
 use Rattle.dyck_words.specs.declared.reading.Read.{Read}
 use Rattle.dyck_words.specs.declared.reading.Read.the-variants.{To, Broken}
@@ -59,7 +57,3 @@ pub record Told (x : Bytes) (after : ℕ) (rows : Bytes) : Type 0 where
   pub low : (k : ℕ) → getD rows k 0 ≤ k
   pub tells : (a b : Bytes) (t : Tree) → x ≡ a ++ (word t ++ b) → Stops b → after + length (word t ++ b) ≤ places
       → getD rows (after + length (word t ++ b)) 0 ≡ length (word t)
-
--- the words of n + 1 branches whose inside has fewer than j
-unfoldable pub shorter : ℕ → ℕ → ℕ
-shorter n j = sumOver (range 0 j) (λ l. catalanOf l * catalanOf (n - l))

@@ -2,8 +2,8 @@
 -- Assumes nothing.
 use mathlib.Core.Path.{refl}
 use mathlib.Core.List.{flatMap}
-use Rattle.counting.specs.Sums.{total, range}
-use Rattle.counting.specs.Numbers.{oneLess, lettersFrom}
+use Rattle.numbers.specs.Sums.{total, range}
+use Rattle.numbers.specs.Numbers.{oneLess, lettersFrom}
 use Rattle.listings.specs.Bytes.{same}
 use Rattle.listings.specs.Orders.{firstDiffers, lastDiffers}
 use Rattle.listings.specs.Places.{countBefore}

@@ -11,7 +11,7 @@ use denote.Enum.Declared.{tagOf}
 use Rattle.counting.specs.declared.Count.{Count}
 use Rattle.counting.specs.Answers.{fits, within}
 use Rattle.counting.proofs.Count.{the-type}
-use Rattle.counting.proofs.Laws.{answered, within-in}
+use Rattle.counting.proofs.Answers.{answered, within-in}
 
 -- the answer for arguments within the limits is the answer for the count
 pub answer-within : {t : Bool} {v w : ℕ} {r : Count} → r ≡ within t (fits v) → t ≡ true → w ≡ v → r ≡ fits w

@@ -9,8 +9,8 @@ use native.Mathlib.Omega.{arith}
 use lib.Dec.{leb, ltb, eqb}
 use lib.ListN.{length}
 use borrow.Author.Tests.{leb-true, ltb-true, eqb-true, lt-ltb}
-use Rattle.counting.specs.Limits.{places, branches}
-use Rattle.counting.specs.Sums.{total}
+use Rattle.numbers.specs.Limits.{places, branches}
+use Rattle.numbers.specs.Sums.{total}
 use Rattle.listings.specs.Bytes.{Bytes}
 use Rattle.listings.proofs.Bools.{and-true, or-cases}
 use Rattle.families.specs.declared.Family.{Family}

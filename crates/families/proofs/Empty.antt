@@ -8,9 +8,9 @@ use native.Mathlib.Omega.{arith}
 use native.Mathlib.Decide.{decLe}
 use lib.Dec.{leb, ltb, eqb}
 use lib.ListN.{replicate}
-use Rattle.counting.specs.Numbers.{choose, multinomialOf, factorialOf, stirlingOf, partitionsOf, catalanOf}
+use Rattle.numbers.specs.Numbers.{choose, multinomialOf, factorialOf, stirlingOf, partitionsOf, catalanOf}
 use borrow.Author.Tests.{lt-ltb, le-leb, lt-leb, ne-eqb}
-use Rattle.counting.proofs.Laws.{choose-none, choose-positive, multinomial-positive, multinomial-ones, stirling-corner, stirling-none, stirling-zero, stirling-positive, partitions-corner, partitions-none, partitions-zero, partitions-positive, catalan-positive}
+use Rattle.numbers.proofs.Laws.{choose-none, choose-positive, multinomial-positive, multinomial-ones, stirling-corner, stirling-none, stirling-zero, stirling-positive, partitions-corner, partitions-none, partitions-zero, partitions-positive, catalan-positive}
 use Rattle.families.specs.declared.Family.{Family}
 use Rattle.families.specs.Table.{Lent, Kind, subset, anagram, permutation, setPartition, integerPartition, dyckWord, unknown, kindOf, allowed, hasObject}
 use Rattle.families.specs.Listing.{countOf}

@@ -6,8 +6,8 @@ use mathlib.Core.List.{List, []}
 use Prim.Native.Nat.{ℕ}
 use lib.ListN.{length}
 use lib.Dec.{leb, eqb}
-use Rattle.counting.specs.Limits.{places}
-use Rattle.counting.specs.Sums.{total}
+use Rattle.numbers.specs.Limits.{places}
+use Rattle.numbers.specs.Sums.{total}
 use Rattle.listings.specs.Bytes.{Bytes}
 use Rattle.listings.specs.Listings.{Listing, StrictTotal}
 use Rattle.listings.specs.Places.{At}

@@ -2,7 +2,7 @@
 -- Assumes nothing.
 use mathlib.Core.List.{List}
 use Prim.Native.Nat.{ℕ}
-use Rattle.counting.specs.Numbers.{choose, multinomialOf, factorialOf, stirlingOf, partitionsOf, catalanOf}
+use Rattle.numbers.specs.Numbers.{choose, multinomialOf, factorialOf, stirlingOf, partitionsOf, catalanOf}
 use Rattle.families.specs.Table.{Kind, subset, anagram, permutation, setPartition, integerPartition, dyckWord, unknown}
 
 -- how many objects a kind has, as its counting rule says

@@ -5,8 +5,8 @@ use mathlib.Core.List.{List, [], _∷_}
 use Prim.Native.Nat.{ℕ, _*_}
 use lib.Dec.{leb, ltb, eqb}
 use lib.ListN.{length, getD}
-use Rattle.counting.specs.Limits.{places, branches}
-use Rattle.counting.specs.Sums.{total}
+use Rattle.numbers.specs.Limits.{places, branches}
+use Rattle.numbers.specs.Sums.{total}
 use Rattle.families.specs.declared.Family.{Family}
 
 -- everything lent beside a family, a field a list: "a lent list of letter counts, one byte a letter, filled only for kind 2"

@@ -3,8 +3,8 @@ ghost use mathlib.Core.Path.{_≡_};
 ghost use mathlib.Core.Bool.{true, _&&_, _||_};
 ghost use Prim.Native.Nat.{_+_, _<_, _^_, min};
 ghost use lib.Dec.{leb, ltb, eqb};
-ghost use Rattle.counting.specs.Limits.{places};
-ghost use Rattle.counting.specs.Sums.{total};
+ghost use Rattle.numbers.specs.Limits.{places};
+ghost use Rattle.numbers.specs.Sums.{total};
 ghost use Rattle.counting.specs.Answers.{fits as fitsOf};
 ghost use Rattle.families.specs.Table.{lent, isKind, inTable, listsFit, allowed, objectLength, kindOf, hasObject};
 ghost use Rattle.families.specs.Listing.{countOf};
@@ -155,11 +155,17 @@ pub fn count(f: Family, counts: &[u8]) -> Count
     }
 }
 
-// Question 5.
+// Question 5. A Stirling number that fits is known by its place; to work it out would take as long as the rank.
 pub fn fits(f: Family, counts: &[u8]) -> bool
     requires { ⌜ allowed f (lent (now counts)) ≡ true ⌝ }
     ensures { λ r. ⌜ r ≡ ltb (countOf f (lent (now (counts .entry)))) (2 ^ 64) ⌝ }
 {
+    let kind = f.kind;
+    let n = f.n;
+    let k = f.k;
+    if kind == 4 {
+        return stirlings::stirling_fits(n, k);
+    }
     let Count::Exactly(_) = count(f, counts) else {
         return false;
     };
@@ -178,7 +184,7 @@ pub fn exact(f: Family, counts: &[u8]) -> u64
     v
 }
 
-// What COUNT answers: for kind 1 out of paper 01's constant table.
+// What COUNT answers.
 pub fn answer(f: Family, counts: &[u8]) -> u64
     requires { ⌜ allowed f (lent (now counts)) ≡ true ⌝ }
     requires { ⌜ countOf f (lent (now counts)) < 2 ^ 64 ⌝ }
@@ -190,7 +196,7 @@ pub fn answer(f: Family, counts: &[u8]) -> u64
     if kind != 1 {
         return exact(f, counts);
     }
-    let Count::Exactly(v) = counting::binomial(n, k) else {
+    let Count::Exactly(v) = counting::subset_count(n, k) else {
         return 0;
     };
     v

@@ -118,11 +118,11 @@ pub fn rank(f: Family, counts: &[u8], object: &[u8]) -> u64
     let k = f.k;
     match kind {
         1 => subsets::rank(n, object),
-        2 => anagrams::rank(counts, object),
-        3 => permutations::rank(object),
+        2 => anagram_ranks::rank(counts, object),
+        3 => anagram_ranks::permutations::rank(object),
         4 => set_partitions::rank(k, object),
         5 => integer_partitions::rank(1, n, object),
-        6 => dyck_words::rank(n, object),
+        6 => dyck_ranks::rank(n, object),
         _ => 0,
     }
 }
@@ -139,11 +139,11 @@ pub fn unrank(f: Family, counts: &[u8], rank: u64, object: &mut [u8])
     let k = f.k;
     match kind {
         1 => subsets::unrank(n, rank, object),
-        2 => anagrams::unrank(counts, rank, object),
-        3 => permutations::unrank(rank, object),
+        2 => anagram_ranks::unrank(counts, rank, object),
+        3 => anagram_ranks::permutations::unrank(rank, object),
         4 => set_partitions::unrank(k, rank, object),
         5 => integer_partitions::unrank(1, n, rank, object),
-        6 => dyck_words::unrank(n, rank, object),
+        6 => dyck_ranks::unrank(n, rank, object),
         _ => {}
     }
 }

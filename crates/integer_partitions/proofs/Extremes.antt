@@ -9,7 +9,7 @@ use native.Mathlib.Nat.{zero-mul, zero-add, suc-add, add-suc, suc-mul, mul-suc, 
 use native.Mathlib.Numerals.{add-one}
 use native.Mathlib.Omega.{arith}
 use lib.ListN.{length, getD, set, take, drop, replicate, length-append, length-replicate, getD-replicate}
-use Rattle.counting.specs.Sums.{total}
+use Rattle.numbers.specs.Sums.{total}
 use Rattle.listings.specs.Bytes.{Bytes}
 use Rattle.listings.specs.Orders.{lastDiffers}
 use Rattle.listings.specs.Places.{First, Last}

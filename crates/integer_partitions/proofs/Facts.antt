@@ -9,7 +9,7 @@ use lib.Dec.{leb, eqb}
 use lib.ListN.{length, getD, take, length-append}
 use lib.Seq.{take-suc, take-all}
 use borrow.Author.Tests.{leb-true, le-leb, eqb-true, eq-eqb}
-use Rattle.counting.specs.Sums.{total}
+use Rattle.numbers.specs.Sums.{total}
 use Rattle.listings.specs.Bytes.{Bytes}
 use Rattle.listings.proofs.Bools.{and-true, and-makes}
 use Rattle.integer_partitions.specs.Objects.{descends, isIntegerPartition}

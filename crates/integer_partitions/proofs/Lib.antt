@@ -5,5 +5,6 @@ pub mod Parts
 pub mod Extremes
 pub mod Moves
 pub mod Ranks
+pub mod Loops
 pub mod Testing
 pub mod Small

@@ -9,8 +9,8 @@ use native.Mathlib.Numerals.{add-one}
 use native.Mathlib.Omega.{arith}
 use lib.ListN.{length, getD, set, take, drop, length-drop}
 use lib.Seq.{split-at, drop-cons, set-at, length-take-le, take-take, getD-take}
-use Rattle.counting.specs.Sums.{total, range}
-use Rattle.counting.proofs.Laws.{range-add, in-range}
+use Rattle.numbers.specs.Sums.{total, range}
+use Rattle.numbers.proofs.Laws.{range-add, in-range}
 use Rattle.listings.specs.Bytes.{Bytes}
 use Rattle.listings.specs.Places.{Follows, First, Last}
 use Rattle.listings.proofs.Bools.{and-true}

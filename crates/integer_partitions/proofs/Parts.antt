@@ -9,7 +9,7 @@ use native.Mathlib.Numerals.{add-one}
 use native.Mathlib.Omega.{arith}
 use lib.ListN.{length, getD, take, drop, replicate, take-append-drop}
 use lib.Seq.{take-suc, take-nil, getD-drop}
-use Rattle.counting.specs.Sums.{total}
+use Rattle.numbers.specs.Sums.{total}
 use Rattle.listings.specs.Bytes.{Bytes}
 use Rattle.integer_partitions.specs.Objects.{descends, isIntegerPartition}
 use Rattle.integer_partitions.proofs.Facts.{partition-cases, total-append, descends-cons, descends-makes}

@@ -6,9 +6,9 @@ use Prim.Native.Nat.{ℕ, zero, suc, _+_, _-_, _≤_, _<_, _^_}
 use native.Mathlib.Nat.{sub-zero, eq-or-lt-of-le}
 use native.Mathlib.Decide.{decLe}
 use native.Mathlib.Omega.{arith}
-use Rattle.counting.specs.Limits.{places}
-use Rattle.counting.specs.Numbers.{partitionsOf}
-use Rattle.counting.proofs.Laws.{partitions-rule, partitions-none, partitions-zero, partitions-corner}
+use Rattle.numbers.specs.Limits.{places}
+use Rattle.numbers.specs.Numbers.{partsFrom, partitionsOf}
+use Rattle.numbers.proofs.Laws.{partitions-rule, partitions-none, partitions-zero, partitions-corner, floor-mono}
 
 -- 1, 1, 2, 3, 5, .. from a and b on
 fibonacci : ℕ → ℕ → ℕ → ℕ
@@ -57,6 +57,10 @@ bounded (suc (suc n)) m h k = step (bounded n) (bounded (suc n)) (eq-or-lt-of-le
     step low high (inl e) = rw e (grown n low high k)
     step low high (inr l) = omega (arith, next 1 1 n, high m (omega arith) k)
 
-pub small : (n k : ℕ) → n ≤ places → partitionsOf n k < 2 ^ 64
+small : (n k : ℕ) → n ≤ places → partitionsOf n k < 2 ^ 64
 unfolding fibonacci
 small n k h = omega (arith, bounded places n h k)
+
+pub small-over : (k f n : ℕ) → 0 < f → n ≤ places → partsFrom k f n < 2 ^ 64
+unfolding partitionsOf
+small-over k f n pos h = omega (arith, small n k h, floor-mono k n {f = 1} {g = f} (omega arith))

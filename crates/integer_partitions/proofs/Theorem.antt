@@ -8,9 +8,9 @@ use native.Mathlib.Omega.{arith}
 use lib.Dec.{ltb}
 use lib.ListN.{length, length-map}
 use borrow.Author.Tests.{ltb-true}
-use Rattle.counting.specs.Sums.{total, range}
-use Rattle.counting.specs.Numbers.{partsFrom, partitionsOf}
-use Rattle.counting.proofs.Laws.{between, in-range, sumOver-cong}
+use Rattle.numbers.specs.Sums.{total, range}
+use Rattle.numbers.specs.Numbers.{partsFrom, partitionsOf}
+use Rattle.numbers.proofs.Laws.{between, in-range, sumOver-cong}
 use Rattle.listings.specs.Bytes.{Bytes}
 use Rattle.listings.specs.Listings.{Ascending, none, more, Listing}
 use Rattle.listings.proofs.Members.{flatMap-in, flatMap-of, length-flatMap}

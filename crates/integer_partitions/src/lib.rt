@@ -4,8 +4,8 @@ ghost use mathlib.Core.Path.{_≡_};
 ghost use mathlib.Core.Bool.{true};
 ghost use Prim.Native.Nat.{_*_, _≤_, _<_};
 ghost use lib.ListN.{length};
-ghost use Rattle.counting.specs.Limits.{places};
-ghost use Rattle.counting.specs.Numbers.{partsFrom};
+ghost use Rattle.numbers.specs.Limits.{places};
+ghost use Rattle.numbers.specs.Numbers.{partsFrom};
 ghost use Rattle.listings.specs.Calls.{NEXT, PREVIOUS, Said, act};
 ghost use Rattle.listings.specs.Places.{At, First, Last, countBefore};
 ghost use Rattle.listings.specs.Steps.{stepAs};
@@ -17,11 +17,11 @@ mod search;
 use listings::Step;
 use listings::fill_with;
 use search::at_least;
-use search::last_part;
 use search::part_to_lower;
 use search::part_to_raise;
 use search::sum;
 use search::wide;
+use search::with_smaller;
 
 // Does the slice hold k parts of at least the floor, weakly descending, with the sum n?
 pub fn is_object(floor: u64, n: u64, k: u64, object: &[u8]) -> bool
@@ -114,35 +114,46 @@ pub fn previous(floor: u64, n: u64, object: &mut [u8]) -> Step
     Step::Stepped
 }
 
-// How many come before it: those with a smaller last part, and then as many as before the others, which are at least that part.
+// How many come before it: at each part those with a smaller one there and the same behind it.
 pub fn rank(floor: u64, n: u64, object: &[u8]) -> u64
     requires { ⌜ (n ≤ places) × (0 < floor) ⌝ }
     requires { ⌜ isIntegerPartition floor n (length (now object)) (now object) ≡ true ⌝ }
     ensures { λ r. ⌜ r ≡ countBefore integerPartitionBefore (now (object .entry)) (integerPartitions (length (now (object .entry))) floor n) ⌝ }
 {
-    let k = object.len();
-    if k == 0 {
-        return 0;
+    let mut earlier: u64 = 0;
+    let mut least = floor;
+    let mut left = n;
+    let mut k = object.len();
+    while 0 < k {
+        let p = wide(object[k - 1]);
+        earlier += with_smaller(least, p, left, k as u64);
+        least = p;
+        left -= p;
+        k -= 1;
     }
-    let end = k - 1;
-    let p = wide(object[end]);
-    let earlier = at_least(floor, n, k as u64) - at_least(p, n, k as u64);
-    earlier + rank(p, n - p, &object[..end])
+    earlier
 }
 
-// The object of a rank: its last part, and the others.
+// The object of a rank, from its last part on. Those that have the least part there come first: the rank is among them, or the part is larger.
 pub fn unrank(floor: u64, n: u64, rank: u64, object: &mut [u8])
     requires { ⌜ (n ≤ places) × ((0 < floor) × (length (now object) ≤ places)) ⌝ }
     requires { ⌜ rank < partsFrom (length (now object)) floor n ⌝ }
     ensures { λ _. ⌜ At (integerPartitions (length (now (object .entry))) floor n) (now (object .exit)) rank ⌝ }
 {
-    let k = object.len();
-    if k == 0 {
-        return;
+    let mut r = rank;
+    let mut least = floor;
+    let mut left = n;
+    let mut k = object.len();
+    while 0 < r {
+        let here = at_least(least, left - least, k as u64 - 1);
+        if here <= r {
+            r -= here;
+            least += 1;
+            continue;
+        }
+        k -= 1;
+        left -= least;
+        object[k] = least as u8;
     }
-    let end = k - 1;
-    let p = last_part(floor, n, k as u64, rank);
-    let rest = rank - (at_least(floor, n, k as u64) - at_least(p, n, k as u64));
-    unrank(p, n - p, rest, &mut object[..end]);
-    object[end] = p as u8;
+    first(least, left, &mut object[..k]);
 }

@@ -2,11 +2,10 @@
 ghost use mathlib.Core.Path.{_≡_};
 ghost use Prim.Native.Nat.{ℕ, suc, _*_, _-_, _≤_, _<_};
 ghost use lib.ListN.{length, take, getD};
-ghost use Rattle.counting.specs.Limits.{places};
-ghost use Rattle.counting.specs.Sums.{total};
-ghost use Rattle.counting.specs.Numbers.{partsFrom};
-use counting::Count;
-use counting::partitions;
+ghost use Rattle.numbers.specs.Limits.{places};
+ghost use Rattle.numbers.specs.Sums.{total};
+ghost use Rattle.numbers.specs.Numbers.{partsFrom};
+use partition_numbers::partitions;
 
 pub fn wide(b: u8) -> u64
     ensures { λ r. ⌜ r ≡ b ⌝ }
@@ -80,23 +79,17 @@ pub fn at_least(p: u64, n: u64, k: u64) -> u64
     if n < off {
         return 0;
     }
-    let Count::Exactly(v) = partitions(n - off, k) else {
-        return 0;
-    };
-    v
+    partitions(n - off, k)
 }
 
-// The last part of the object of a rank: as many have a smaller one as fit into the rank.
-pub fn last_part(floor: u64, n: u64, k: u64, rank: u64) -> u64
-    requires { ⌜ (0 < floor) × ((n ≤ places) × ((0 < k) × (k ≤ places))) ⌝ }
-    requires { ⌜ rank < partsFrom k floor n ⌝ }
-    ensures { λ r. ⌜ (floor ≤ r) × (r ≤ n) ⌝ }
-    ensures { λ r. ⌜ (partsFrom k floor n - partsFrom k r n ≤ rank) × (rank < partsFrom k floor n - partsFrom k (suc r) n) ⌝ }
+// Those of k parts of at least the floor whose last part is below p. None where p is the floor, which is often so and spares the reads.
+pub fn with_smaller(floor: u64, p: u64, n: u64, k: u64) -> u64
+    requires { ⌜ (0 < floor) × ((n ≤ places) × (k ≤ places)) ⌝ }
+    requires { ⌜ (floor ≤ p) × (p ≤ 256) ⌝ }
+    ensures { λ r. ⌜ r ≡ partsFrom k floor n - partsFrom k p n ⌝ }
 {
-    let all = at_least(floor, n, k);
-    let mut p = floor;
-    while all - at_least(p + 1, n, k) <= rank {
-        p += 1;
+    if p == floor {
+        return 0;
     }
-    p
+    at_least(floor, n, k) - at_least(p, n, k)
 }

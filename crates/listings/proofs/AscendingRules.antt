@@ -7,8 +7,8 @@ use mathlib.Core.List.{List, _++_, map, flatMap, List·Memᴰ, List·Memᴰ·hea
 use Prim.Native.Nat.{ℕ, zero, suc}
 use lib.Dec.{ltb}
 use borrow.Author.Tests.{lt-ltb}
-use Rattle.counting.specs.Sums.{range}
-use Rattle.counting.proofs.Ranges.{between}
+use Rattle.numbers.specs.Sums.{range}
+use Rattle.numbers.proofs.Ranges.{between}
 use Rattle.listings.specs.Listings.{Ascending, none, more}
 use Rattle.listings.proofs.Members.{flatMap-of}
 

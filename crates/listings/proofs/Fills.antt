@@ -8,8 +8,8 @@ use native.Mathlib.Numerals.{add-one}
 use native.Mathlib.Omega.{arith}
 use lib.Seq.{getD-append-seam}
 use lib.ListN.{length, getD, set, drop, replicate, length-map, length-append, length-drop, drop-of-length-le}
-use Rattle.counting.specs.Sums.{range}
-use Rattle.counting.proofs.Laws.{length-range}
+use Rattle.numbers.specs.Sums.{range}
+use Rattle.numbers.proofs.Laws.{length-range}
 
 -- the first i stored, the others as they were
 abbrev pub filled : (ℕ → ℕ) → ℕ → List ℕ → List ℕ

@@ -5,7 +5,7 @@ use mathlib.Core.Logic.{_⊎_, inl, inr}
 use mathlib.Core.List.{List, [], _∷_, flatMap, List·Memᴰ, List·Memᴰ·head, List·Memᴰ·tail, List·Memᴰ·not-nil, List·Memᴰ·append-cases, Memᴰ·append-left, Memᴰ·append-right}
 use Prim.Native.Nat.{ℕ}
 use lib.ListN.{length, length-append}
-use Rattle.counting.specs.Sums.{sumOver}
+use Rattle.numbers.specs.Sums.{sumOver}
 
 pub flatMap-in : {A C : Type 0} (g : C → List A) {x : A} {c : C} {cs : List C} → List·Memᴰ c cs → List·Memᴰ x (g c) → List·Memᴰ x (flatMap g cs)
 unfolding flatMap

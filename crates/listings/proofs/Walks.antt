@@ -11,7 +11,7 @@ use native.Mathlib.Omega.{arith}
 use lib.ListN.{length, getD, take, drop, replicate, drop-of-length-le}
 use lib.Seq.{drop-cons, take-suc, take-all}
 use borrow.Author.Tests.{lt-ltb, le-ltb}
-use Rattle.counting.specs.Sums.{range}
+use Rattle.numbers.specs.Sums.{range}
 use Rattle.listings.specs.Bytes.{Bytes}
 use Rattle.listings.specs.Places.{countBefore}
 use Rattle.listings.specs.Calls.{Call, FIRST, LAST, NEXT, PREVIOUS, RANK, UNRANK, REFUSED, RANKED, WRITTEN, Said, judged, act, responses}

@@ -2,7 +2,7 @@
 ghost use mathlib.Core.Path.{_≡_};
 ghost use Prim.Native.Nat.{_+_, _≤_};
 ghost use lib.ListN.{length, replicate};
-ghost use Rattle.counting.specs.Sums.{range};
+ghost use Rattle.numbers.specs.Sums.{range};
 
 // What NEXT and PREVIOUS answer: the object was replaced by its neighbour, or there is none and no byte changed.
 pub enum Step {

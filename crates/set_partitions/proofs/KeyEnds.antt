@@ -9,8 +9,8 @@ use native.Mathlib.Omega.{arith}
 use lib.ListN.{length, take, drop, replicate, length-replicate}
 use lib.Seq.{length-take-le}
 use borrow.Rule.Slice.PartMut.{midOf, putMid}
-use Rattle.counting.specs.Sums.{range}
-use Rattle.counting.proofs.Laws.{range-add, length-range}
+use Rattle.numbers.specs.Sums.{range}
+use Rattle.numbers.proofs.Laws.{range-add, length-range}
 use Rattle.listings.specs.Bytes.{Bytes}
 use Rattle.listings.specs.Places.{First, Last}
 use Rattle.set_partitions.specs.Listing.{setPartitions}

@@ -11,8 +11,8 @@ use native.Mathlib.Omega.{arith}
 use lib.Dec.{ltb, eqb}
 use lib.ListN.{take}
 use borrow.Author.Tests.{lt-ltb, eq-eqb}
-use Rattle.counting.specs.Sums.{range, sumOver}
-use Rattle.counting.proofs.Laws.{length-range, between, in-range}
+use Rattle.numbers.specs.Sums.{range, sumOver}
+use Rattle.numbers.proofs.Laws.{length-range, between, in-range}
 use Rattle.listings.specs.Bytes.{Bytes}
 use Rattle.listings.specs.Orders.{lastDiffers}
 use Rattle.listings.specs.Places.{At, Follows, First, Last}

@@ -5,8 +5,8 @@ use mathlib.Core.List.{[], _∷_, _++_, map, flatMap}
 use Prim.Native.Nat.{ℕ, zero, suc, _+_, _*_, _≤_, _<_}
 use native.Mathlib.Nat.{zero-add}
 use native.Mathlib.Omega.{arith}
-use Rattle.counting.specs.Sums.{range}
-use Rattle.counting.specs.Numbers.{stirlingOf}
+use Rattle.numbers.specs.Sums.{range}
+use Rattle.numbers.specs.Numbers.{stirlingOf}
 use Rattle.listings.specs.Bytes.{Bytes}
 use Rattle.listings.specs.Places.{At, Follows, First, Last}
 use Rattle.listings.proofs.PlaceRules.{at-map, at-flatMap, first-append, first-append-empty, last-append-empty, first-map, last-map, first-flatMap, last-flatMap, follows-flatMap-seam}

@@ -10,8 +10,8 @@ use native.Mathlib.Decide.{decLt}
 use native.Mathlib.Omega.{arith}
 use lib.ListN.{length, take, drop, set, getD, drop-of-length-le}
 use lib.Seq.{length-take-le, split-at, getD-at}
-use Rattle.counting.specs.Numbers.{stirlingOf}
-use Rattle.counting.proofs.Laws.{stirling-rule, stirling-none, stirling-zero, stirling-grows, stirling-grows-both}
+use Rattle.numbers.specs.Numbers.{stirlingOf}
+use Rattle.numbers.proofs.Laws.{stirling-rule, stirling-none, stirling-zero, stirling-grows, stirling-grows-both}
 use Rattle.listings.specs.Bytes.{Bytes}
 use Rattle.listings.specs.Orders.{lastDiffers}
 use Rattle.listings.specs.Places.{At, countBefore}
@@ -30,6 +30,9 @@ use Rattle.set_partitions.proofs.KeyReading.{keys-take}
 abbrev pub rankOf : ℕ → ℕ → Bytes → ℕ
 rankOf n k x = countBefore setPartitionBefore x (setPartitions n k)
 
+pub few-blocks : (n k : ℕ) (x : Bytes) → isSetPartition n k x ≡ true → k ≤ n
+few-blocks n k x o = some-partition n k (rankOf n k x) (at-rank (lists n k) x o) .0
+
 -- x is some models, n of them, and one more, alone in block k or joined to block b of the others
 
 pub record Alone (n m k : ℕ) (front x : Bytes) : Type 0 where
@@ -43,7 +46,6 @@ pub record Joined (n m k b : ℕ) (front x : Bytes) : Type 0 where
   pub few : k ≤ n
   pub from : 1 ≤ b
   pub others : isSetPartition n k front ≡ true
-  pub fewer-alone : stirlingOf n (k - 1) ≤ stirlingOf m k
   pub fewer : stirlingOf n k ≤ stirlingOf m k
   pub rank : rankOf m k x ≡ stirlingOf n (k - 1) + (b - 1) * stirlingOf n k + rankOf n k front
   pub room : rankOf m k x < stirlingOf m k
@@ -68,10 +70,9 @@ joined n k b x h o =
     let same : rankOf (suc n) (suc k) (x ++ (suc b ∷ [])) ≡ r = place-is-rank (lists (suc n) (suc k)) r at in
     record {
       some = omega arith;
-      few = some-partition n (suc k) (rankOf n (suc k) x) there .0;
+      few = few-blocks n (suc k) x o;
       from = omega arith;
       others = o;
-      fewer-alone = rw back (stirling-grows-both n k);
       fewer = stirling-grows n k;
       rank = rw (back, back′) same;
       room = omega (arith, same, at-below (setPartitions (suc n) (suc k)) r at, counted (suc n) (suc k));
@@ -162,9 +163,10 @@ at-block n (suc k) b r h a = let back : suc k - 1 ≡ k = omega arith in rw back
 pub record Split (n m k : ℕ) : Type 0 where
   pub some : 1 ≤ k
   pub few : k ≤ m
-  pub alone : stirlingOf n (k - 1) ≤ stirlingOf m k
-  pub joined : stirlingOf n k ≤ stirlingOf m k
   pub whole : stirlingOf m k ≡ stirlingOf n (k - 1) + k * stirlingOf n k
+
+pub few-where-some : (n k r : ℕ) → r < stirlingOf n k → k ≤ n
+few-where-some n k r h = elim (decLt n k) [ yes g ↦ absurd (omega (arith, stirling-none n k g)) | no g ↦ omega arith ]
 
 split : (n k r : ℕ) → r < stirlingOf (suc n) k → Split n (suc n) k
 split n zero r h = absurd (omega (arith, stirling-zero (suc n) (omega arith)))
@@ -172,9 +174,7 @@ split n (suc k) r h =
     let back : suc k - 1 ≡ k = omega arith in
     record {
       some = omega arith;
-      few = elim (decLt (suc n) (suc k)) [ yes g ↦ absurd (omega (arith, stirling-none (suc n) (suc k) g)) | no g ↦ omega arith ];
-      alone = rw back (stirling-grows-both n k);
-      joined = stirling-grows n k;
+      few = few-where-some (suc n) (suc k) r h;
       whole = rw back (stirling-rule n k);
     }
 
@@ -196,6 +196,14 @@ module _ (k r : ℕ) (x : Bytes) (some : length x ≡ 0 → ⊥) (below : r < st
   put-alone y a =
       let up : suc (k - 1) ≡ k = omega (arith, split-at-last .some) in
       put-last k y (subst (λ m. At (setPartitions (suc (length x - 1)) m) (y ++ (m ∷ [])) r) up (at-alone (length x - 1) (k - 1) r a))
+
+  -- past those with the last model alone there are more models than blocks
+  pub more-models : (s : ℕ) → s ≡ stirlingOf (length x - 1) (k - 1) → s ≤ r → k < length x
+  more-models s e past =
+      elim (decLt k (length x)) [
+        | yes g ↦ g
+        | no g ↦ absurd (omega (arith, e, split-at-last .whole, ap (λ i. k * i) (stirling-none (length x - 1) k (omega arith)), mul-zero k))
+      ]
 
   module _ (s j : ℕ) (alone : s ≡ stirlingOf (length x - 1) (k - 1)) (joined : j ≡ stirlingOf (length x - 1) k) (past : s ≤ r) where
     whole : stirlingOf (length x) k ≡ s + k * j

@@ -8,9 +8,9 @@ use native.Mathlib.Nat.{suc-mul, zero-mul}
 use native.Mathlib.Decide.{decLt}
 use native.Mathlib.Omega.{arith}
 use lib.ListN.{length, length-map}
-use Rattle.counting.specs.Sums.{range, sumOver}
-use Rattle.counting.specs.Numbers.{stirlingOf}
-use Rattle.counting.proofs.Laws.{length-range, between, stirling-none, stirling-zero}
+use Rattle.numbers.specs.Sums.{range, sumOver}
+use Rattle.numbers.specs.Numbers.{stirlingOf}
+use Rattle.numbers.proofs.Laws.{length-range, between, stirling-none, stirling-zero}
 use Rattle.listings.specs.Bytes.{Bytes}
 use Rattle.listings.specs.Listings.{Ascending, none, more, Listing}
 use Rattle.listings.specs.Places.{At}

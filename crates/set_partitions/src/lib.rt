@@ -4,8 +4,9 @@ ghost use mathlib.Core.Path.{_≡_};
 ghost use mathlib.Core.Bool.{true};
 ghost use Prim.Native.Nat.{_≤_, _<_, _^_};
 ghost use lib.ListN.{length};
-ghost use Rattle.counting.specs.Limits.{places};
-ghost use Rattle.counting.specs.Numbers.{stirlingOf};
+ghost use Rattle.numbers.specs.Limits.{places};
+ghost use Rattle.numbers.specs.Numbers.{stirlingOf};
+ghost use Rattle.stirlings.specs.Band.{Reaches};
 ghost use Rattle.listings.specs.Calls.{NEXT, PREVIOUS, Said, act};
 ghost use Rattle.listings.specs.Places.{At, First, Last, countBefore};
 ghost use Rattle.listings.specs.Steps.{stepAs};
@@ -20,7 +21,8 @@ use listings::fill_with;
 use search::block_to_lower;
 use search::block_to_raise;
 use search::keys_of;
-use search::ways;
+use stirlings::NUMBERS;
+use stirlings::band;
 
 // Does the slice hold a partition of n models into k blocks?
 pub fn is_object(n: u64, k: u64, object: &[u8]) -> bool
@@ -113,12 +115,13 @@ pub fn previous(k: u64, object: &mut [u8]) -> Step
     Step::Stepped
 }
 
-// Through the rank of the partition left when the last model is taken out, whose key is read.
-fn rank_of(k: u64, object: &[u8], keys: &[u8]) -> u64
-    requires { ⌜ length (now object) ≤ places ⌝ }
+// Through the rank of the partition left when the last model is taken out, whose key is read. The band has the number of all partitions at `at`:
+// that of those with the last model alone one place before, and with it in a given block a row before.
+fn rank_of(k: u64, object: &[u8], keys: &[u8], band: &[u64; NUMBERS], w: usize, at: usize) -> u64
     requires { ⌜ isSetPartition (length (now object)) k (now object) ≡ true ⌝ }
     requires { ⌜ stirlingOf (length (now object)) k < 2 ^ 64 ⌝ }
     requires { ⌜ now keys ≡ keysIn 0 (now object) ⌝ }
+    requires { ⌜ Reaches (now band) w at (length (now object)) k ⌝ }
     ensures { λ r. ⌜ r ≡ countBefore setPartitionBefore (now (object .entry)) (setPartitions (length (now (object .entry))) k) ⌝ }
 {
     let n = object.len();
@@ -128,11 +131,10 @@ fn rank_of(k: u64, object: &[u8], keys: &[u8]) -> u64
     let end = n - 1;
     let key = keys[end];
     if key == 0 {
-        return rank_of(k - 1, &object[..end], &keys[..end]);
+        return rank_of(k - 1, &object[..end], &keys[..end], band, w, at - 1);
     }
-    let others = end as u64;
-    let earlier = ways(others, k - 1) + (key as u64 - 1) * ways(others, k);
-    earlier + rank_of(k, &object[..end], &keys[..end])
+    let earlier = band[at - 1] + (key as u64 - 1) * band[at - w];
+    earlier + rank_of(k, &object[..end], &keys[..end], band, w, at - w)
 }
 
 // How many partitions come before it, by its keys.
@@ -144,14 +146,23 @@ pub fn rank(k: u64, object: &[u8]) -> u64
 {
     let keys = keys_of(object);
     let n = object.len();
-    rank_of(k, object, &keys[..n])
+    let numbers = band(n as u64, k);
+    let w = k as usize + 1;
+    rank_of(
+        k,
+        object,
+        &keys[..n],
+        &numbers,
+        w,
+        (n - k as usize) * w + k as usize,
+    )
 }
 
-// The object of a rank: the key of the last model, and the partition of the others.
-pub fn unrank(k: u64, rank: u64, object: &mut [u8])
+// The object of a rank: the key of the last model, and the partition of the others. The band is as for `rank_of`.
+fn write_partition(k: u64, rank: u64, object: &mut [u8], band: &[u64; NUMBERS], w: usize, at: usize)
     requires { ⌜ length (now object) ≤ places ⌝ }
-    requires { ⌜ stirlingOf (length (now object)) k < 2 ^ 64 ⌝ }
     requires { ⌜ rank < stirlingOf (length (now object)) k ⌝ }
+    requires { ⌜ Reaches (now band) w at (length (now object)) k ⌝ }
     ensures { λ _. ⌜ At (setPartitions (length (now (object .entry))) k) (now (object .exit)) rank ⌝ }
 {
     let n = object.len();
@@ -159,15 +170,34 @@ pub fn unrank(k: u64, rank: u64, object: &mut [u8])
         return;
     }
     let end = n - 1;
-    let others = end as u64;
-    let alone = ways(others, k - 1);
+    let alone = band[at - 1];
     if rank < alone {
         object[end] = k as u8;
-        unrank(k - 1, rank, &mut object[..end]);
+        write_partition(k - 1, rank, &mut object[..end], band, w, at - 1);
         return;
     }
-    let joined = ways(others, k);
+    let joined = band[at - w];
     let rest = rank - alone;
     object[end] = (rest / joined + 1) as u8;
-    unrank(k, rest % joined, &mut object[..end]);
+    write_partition(k, rest % joined, &mut object[..end], band, w, at - w);
+}
+
+// The object of a rank.
+pub fn unrank(k: u64, rank: u64, object: &mut [u8])
+    requires { ⌜ length (now object) ≤ places ⌝ }
+    requires { ⌜ stirlingOf (length (now object)) k < 2 ^ 64 ⌝ }
+    requires { ⌜ rank < stirlingOf (length (now object)) k ⌝ }
+    ensures { λ _. ⌜ At (setPartitions (length (now (object .entry))) k) (now (object .exit)) rank ⌝ }
+{
+    let n = object.len();
+    let numbers = band(n as u64, k);
+    let w = k as usize + 1;
+    write_partition(
+        k,
+        rank,
+        object,
+        &numbers,
+        w,
+        (n - k as usize) * w + k as usize,
+    );
 }

@@ -1,13 +1,11 @@
-// The searches behind the steps and ranks of set partitions: each reads, and answers a place or a number.
+// The searches behind the steps and ranks of set partitions: each reads, and answers a place or the keys.
 ghost use mathlib.Core.Path.{_≡_};
-ghost use Prim.Native.Nat.{_≤_, _<_, _^_};
+ghost use Prim.Native.Nat.{_≤_, _<_};
 ghost use lib.Dec.{ltb};
 ghost use lib.ListN.{length, take};
-ghost use Rattle.counting.specs.Limits.{places};
-ghost use Rattle.counting.specs.Numbers.{stirlingOf};
+ghost use Rattle.numbers.specs.Limits.{places};
 ghost use Rattle.set_partitions.specs.Objects.{keyOf, keys as keysIn};
 ghost use Rattle.set_partitions.specs.Moves.{rises, sinks, Reached};
-use counting::stirling_that_fits;
 
 // Can the key of a model in block b go up, behind as many models as its place says and the last of them in block `used`?
 fn can_rise(place: usize, used: u8, b: u8) -> bool
@@ -77,12 +75,4 @@ pub fn keys_of(object: &[u8]) -> [u8; 80]
         i += 1;
     }
     keys
-}
-
-// Partitions of n models into k blocks, where their number fits.
-pub fn ways(n: u64, k: u64) -> u64
-    requires { ⌜ (n ≤ places) × ((k ≤ places) × (stirlingOf n k < 2 ^ 64)) ⌝ }
-    ensures { λ r. ⌜ r ≡ stirlingOf n k ⌝ }
-{
-    stirling_that_fits(n, k)
 }

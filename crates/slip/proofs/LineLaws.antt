@@ -12,8 +12,9 @@ use lib.Seq.{drop-drop, take-suc-set}
 use borrow.Author.Tests.{eq-eqb, ne-eqb}
 use Rattle.listings.specs.Bytes.{Bytes}
 use Rattle.families.specs.declared.Family.{Family}
-use Rattle.slip.specs.Columns.{newline}
-use Rattle.slip.specs.Grammar.{Slip, onlyIf, field, consField, fields, line, secondLine, handedOn, withCounts}
+use Rattle.columns.specs.Columns.{newline}
+use Rattle.slip.specs.Grammar.{Slip, consField, fields, line, secondLine, handedOn, withCounts}
+use Rattle.columns.specs.Fields.{onlyIf, field}
 use Rattle.slip.specs.Reading.{AtMost}
 use Rattle.slip.specs.declared.grammar.Parsed.the-variants.{Slip as Read, Malformed}
 

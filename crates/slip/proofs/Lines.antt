@@ -14,10 +14,11 @@ use borrow.Author.Tests.{lt-ltb, le-ltb}
 use Rattle.listings.specs.Bytes.{Bytes}
 use Rattle.listings.specs.Places.{At}
 use Rattle.families.specs.declared.Family.{Family}
-use Rattle.slip.specs.Columns.{newline, justified}
+use Rattle.columns.specs.Columns.{newline, justified}
 use Rattle.slip.specs.Text.{wordEnd, wordMore, listedAtMost, firstLine, objectLine, objectLines, ending, body}
-use Rattle.slip.specs.Writing.{Wrote, familyColumns, lastLine}
-use Rattle.slip.proofs.Writes.{then}
+use Rattle.slip.specs.Writing.{familyColumns, lastLine}
+use Rattle.columns.specs.Writing.{Wrote}
+use Rattle.columns.proofs.Writes.{then}
 
 bytes-snoc : (g : ℕ → Bytes) (x : Bytes) (i : ℕ) → i < length x → flatMap g (take (suc i) x) ≡ flatMap g (take i x) ++ g (getD x i 0)
 unfolding flatMap

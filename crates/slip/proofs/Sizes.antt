@@ -18,12 +18,12 @@ use Rattle.families.proofs.Listings.{listed, lawful}
 use Rattle.families.proofs.Dispatch.{object-allowed}
 use Rattle.slip.specs.declared.Rendered.{Rendered}
 use Rattle.slip.specs.declared.Rendered.the-variants.{Text}
-use Rattle.slip.specs.Columns.{column, justified}
+use Rattle.columns.specs.Columns.{column, justified}
 use Rattle.slip.specs.Grammar.{Slip, slipOf}
 use Rattle.slip.specs.Text.{wordMany, listedAtMost, firstLine, objectLine, objectLines, ending, body, refusedText, manyOr, said, familyText, textOf, output}
-use Rattle.slip.specs.Writing.{Wrote}
+use Rattle.columns.specs.Writing.{Wrote}
 use Rattle.slip.specs.Rendering.{largest, Renders}
-use Rattle.slip.proofs.ColumnLaws.{length-column}
+use Rattle.columns.proofs.ColumnLaws.{length-column}
 use Rattle.slip.proofs.Lines.{upTo}
 use Rattle.slip.proofs.Listed.{length-small}
 

@@ -8,8 +8,9 @@ use native.Mathlib.Omega.{arith}
 use lib.ListN.{length, getD, take, drop, length-take}
 use lib.Seq.{take-take, drop-drop, getD-take, length-take-le}
 use Rattle.listings.specs.Bytes.{Bytes}
-use Rattle.slip.specs.Columns.{newline}
-use Rattle.slip.specs.Grammar.{field, consField, fields, slipFrom, slipOf}
+use Rattle.columns.specs.Columns.{newline}
+use Rattle.slip.specs.Grammar.{consField, fields, slipFrom, slipOf}
+use Rattle.columns.specs.Fields.{field}
 use Rattle.slip.proofs.LineLaws.{line-width, line-end, line-fields}
 
 -- a part of the front is that part of the whole

@@ -9,8 +9,9 @@ use Rattle.families.specs.Table.{kindOf, isKind, bounds, inTable, countsFit, li
 use Rattle.families.specs.Listing.{listingOf, ifAllowed, listing, countOf}
 use Rattle.families.specs.Questions.{asked, isIn, put, opening, closing, refusal}
 use Rattle.families.specs.Calls.{respond}
-use Rattle.slip.specs.Columns.{front, column, justified}
-use Rattle.slip.specs.Grammar.{onlyIf, digits, choose3, field, consField, fields, line, secondLine, countsOn, handedOn, withCounts, slipWith, slipFrom, slipOf}
+use Rattle.columns.specs.Columns.{front, column, justified}
+use Rattle.slip.specs.Grammar.{consField, fields, line, secondLine, countsOn, handedOn, withCounts, slipWith, slipFrom, slipOf}
+use Rattle.columns.specs.Fields.{onlyIf, digits, choose3, field}
 use Rattle.slip.specs.Text.{firstLine, objectLine, objectLines, ending, body, said, familyText, textOf, output}
 
 -- the slip `   1   4   2` and its newline

@@ -8,31 +8,13 @@ use lib.Dec.{leb, eqb}
 use lib.ListN.{length, getD, take, drop}
 use Rattle.listings.specs.Bytes.{Bytes}
 use Rattle.families.specs.declared.Family.{Family}
-use Rattle.slip.specs.Columns.{blank, newline}
+use Rattle.columns.specs.Columns.{newline}
+use Rattle.columns.specs.Fields.{onlyIf, field}
 
 -- a family with the counts lent beside it
 pub record Slip : Type 0 where
   pub family : Family
   pub counts : List ℕ
-
-unfoldable pub onlyIf : {A : Type 0} → Bool → Option A → Option A
-onlyIf true o = o
-onlyIf false o = none
-
--- digits to the end of the field
-unfoldable pub digits : ℕ → Bytes → Option ℕ
-digits v [] = some v
-digits v (b ∷ x) = onlyIf (leb 48 b && leb b 57) (digits (10 * v + (b - 48)) x)
-
-unfoldable pub choose3 : Bool → Bool → Option ℕ → Option ℕ → Option ℕ → Option ℕ
-choose3 true z skipped lone number = skipped
-choose3 false true skipped lone number = lone
-choose3 false false skipped lone number = number
-
--- a field: blanks, then a number: "No leading zeros (a lone 0 is a number), no blank field"
-unfoldable pub field : Bytes → Option ℕ
-field [] = none
-field (b ∷ x) = choose3 (eqb b blank) (eqb b 48) (field x) (onlyIf (eqb (length x) 0) (some 0)) (digits 0 (b ∷ x))
 
 unfoldable pub consField : Option ℕ → Option (List ℕ) → Option (List ℕ)
 consField none vs = none

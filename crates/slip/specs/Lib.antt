@@ -1,6 +1,5 @@
--- What a reader must believe of the program's text: columns, the slip's grammar, and everything that is printed.
+-- What a reader must believe of the program's text: the slip's grammar and everything that is printed, in the columns of `columns`.
 -- Writing and Reading serve the contracts of private functions only.
-pub mod Columns
 pub mod Grammar
 pub mod Text
 pub mod Writing

@@ -7,15 +7,9 @@ use mathlib.Core.List.{List}
 use Prim.Native.Nat.{ℕ, _≤_}
 use lib.ListN.{take}
 use Rattle.families.specs.declared.Family.{Family}
-use Rattle.slip.specs.declared.fields.Value.{Value}
-use Rattle.slip.specs.declared.fields.Value.the-variants.{Number, Bad}
 use Rattle.slip.specs.declared.grammar.Parsed.{Parsed}
 use Rattle.slip.specs.declared.grammar.Parsed.the-variants.{Slip as Read, Malformed}
 use Rattle.slip.specs.Grammar.{Slip}
-
-unfoldable pub valueAs : Value → Option ℕ
-valueAs (Number v) = some v
-valueAs Bad = none
 
 -- a slip's counts are the first m of the buffer
 unfoldable pub parsedAs : Parsed → List ℕ → Option Slip

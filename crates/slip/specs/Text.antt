@@ -12,7 +12,7 @@ use Rattle.families.specs.declared.Family.{Family}
 use Rattle.families.specs.Table.{lent}
 use Rattle.families.specs.Listing.{listing}
 use Rattle.families.specs.Calls.{respond}
-use Rattle.slip.specs.Columns.{newline, column, justified}
+use Rattle.columns.specs.Columns.{newline, column, justified}
 use Rattle.slip.specs.Grammar.{Slip, slipOf}
 
 -- the words of the output, in ASCII

@@ -1,17 +1,9 @@
--- What a writer into a lent buffer promises. Contracts of private functions only: no reader of the program's text needs it.
+-- The parts of lines that have a writer of their own. Contracts of private functions only: no reader of the program's text needs it.
 -- Assumes nothing.
-use mathlib.Core.Path.{_≡_}
 use mathlib.Core.List.{[], _∷_, _++_}
-use Prim.Native.Nat.{ℕ, _+_}
-use lib.ListN.{length, take}
 use Rattle.listings.specs.Bytes.{Bytes}
 use Rattle.families.specs.declared.Family.{Family}
-use Rattle.slip.specs.Columns.{newline, column, justified}
-
--- from the buffer d, written up to at, to the buffer e, written up to r: s was added, and nothing before it changed
-pub record Wrote (d : Bytes) (at : ℕ) (e : Bytes) (r : ℕ) (s : Bytes) : Type 0 where
-  pub till : r ≡ at + length s
-  pub bytes : take r e ≡ take at d ++ s
+use Rattle.columns.specs.Columns.{newline, column, justified}
 
 -- the family in the first line
 unfoldable pub familyColumns : Family → Bytes

@@ -1,6 +1,6 @@
 // The slip as a whole: the first line, and for kind 2 the counts of the second.
-use crate::fields::Value;
-use crate::fields::field;
+use columns::fields::Value;
+use columns::fields::field;
 use families::Family;
 ghost use mathlib.Core.Path.{_≡_};
 ghost use Prim.Native.Nat.{_*_, _≤_, min};

@@ -3,8 +3,6 @@ ghost use mathlib.Core.Path.{_≡_};
 ghost use lib.ListN.{length};
 ghost use Rattle.slip.specs.Rendering.{Renders};
 
-mod columns;
-mod fields;
 mod grammar;
 mod listing;
 

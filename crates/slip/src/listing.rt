@@ -1,8 +1,8 @@
 // What the program prints for a family: the first line, a line an object, and END or MORE; or a refusal.
-use crate::columns::put_byte;
-use crate::columns::put_column;
-use crate::columns::put_justified;
-use crate::columns::put_word;
+use columns::put_byte;
+use columns::put_column;
+use columns::put_justified;
+use columns::put_word;
 use families::Counted;
 use families::Family;
 use families::Length;
@@ -17,9 +17,10 @@ ghost use lib.ListN.{length};
 ghost use Rattle.listings.specs.Places.{First};
 ghost use Rattle.families.specs.Table.{lent, allowed, objectLength};
 ghost use Rattle.families.specs.Listing.{listing};
-ghost use Rattle.slip.specs.Columns.{column};
+ghost use Rattle.columns.specs.Columns.{column};
 ghost use Rattle.slip.specs.Text.{wordEnd, wordMore, firstLine, objectLine, body, refusedText, manyOr, familyText};
-ghost use Rattle.slip.specs.Writing.{Wrote, familyColumns, lastLine};
+ghost use Rattle.slip.specs.Writing.{familyColumns, lastLine};
+ghost use Rattle.columns.specs.Writing.{Wrote};
 
 // At most so many objects are listed.
 const LISTED: u64 = 1000;

@@ -6,7 +6,7 @@ use Prim.Native.Nat.{ℕ, suc, _<_}
 use native.Mathlib.Omega.{arith}
 use lib.ListN.{length, take, drop, set, length-set}
 use lib.Seq.{length-take-le, length-front, set-split, drop-at}
-use Rattle.counting.specs.Sums.{range}
+use Rattle.numbers.specs.Sums.{range}
 
 module _ (x : List ℕ) (i v : ℕ) (h : i < length x) where
   pub front-long : length (take i (set x i v)) ≡ i

@@ -8,7 +8,7 @@ use native.Mathlib.Nat.{add-zero}
 use native.Mathlib.Omega.{arith}
 use lib.ListN.{length, take, drop, getD, length-drop, List·getD-eq-default}
 use lib.Seq.{take-all, split-at, getD-drop}
-use Rattle.counting.specs.Sums.{range}
+use Rattle.numbers.specs.Sums.{range}
 use Rattle.listings.specs.Bytes.{Bytes}
 use Rattle.listings.specs.Places.{Follows, First, Last}
 use Rattle.listings.proofs.Standing.{getD-default}

@@ -10,9 +10,9 @@ use native.Mathlib.Numerals.{add-one, one-add}
 use native.Mathlib.Omega.{arith}
 use lib.ListN.{length, take, getD}
 use lib.Seq.{length-take-le, append-snoc}
-use Rattle.counting.specs.Sums.{range}
-use Rattle.counting.specs.Numbers.{choose}
-use Rattle.counting.proofs.Laws.{pascal, choose-none, range-add}
+use Rattle.numbers.specs.Sums.{range}
+use Rattle.numbers.specs.Numbers.{choose}
+use Rattle.numbers.proofs.Laws.{pascal, choose-none, range-add}
 use Rattle.listings.specs.Bytes.{Bytes}
 use Rattle.listings.specs.Places.{At, Follows, First, Last}
 use Rattle.listings.proofs.PlaceRules.{at-append-left, at-append-right, at-map}

@@ -5,12 +5,11 @@ use mathlib.Core.Bool.{true}
 use mathlib.Core.List.{[], _∷_, _++_}
 use Prim.Native.Nat.{ℕ, zero, suc, _+_, _-_, _≤_, _<_}
 use native.Mathlib.Numerals.{add-one}
-use native.Mathlib.Decide.{decLe}
 use native.Mathlib.Omega.{arith}
 use lib.ListN.{length, take, drop, getD, set, drop-of-length-le}
 use lib.Seq.{length-take-le}
-use Rattle.counting.specs.Numbers.{choose}
-use Rattle.counting.proofs.Laws.{pascal, choose-none, choose-mono}
+use Rattle.numbers.specs.Numbers.{choose}
+use Rattle.numbers.proofs.Laws.{pascal, choose-mono}
 use Rattle.listings.specs.Bytes.{Bytes}
 use Rattle.listings.specs.Orders.{lastDiffers}
 use Rattle.listings.specs.Places.{At, countBefore}
@@ -71,10 +70,6 @@ parted n end b x o e f =
       fewer = choose-mono (length x) (omega (arith, t .last, t .below));
       fewer-front = rw (l, top, e) (one-fewer n (t .top) end (t .below));
     }
-
--- a rank below a count tells that there is something to count
-pub within-places : (n k r : ℕ) → r < choose n k → k ≤ n
-within-places n k r h = elim (decLe k n) [ yes le ↦ le | no more ↦ absurd (omega (arith, choose-none n k (omega arith))) ]
 
 -- there is one subset of no numbers
 pub unrank-none : (n r : ℕ) (x : Bytes) → length x ≡ 0 → r < choose n (length x) → At (subsets n (length x)) x r

@@ -7,7 +7,7 @@ use mathlib.Core.List.{[], _∷_, _++_, List·Memᴰ, List·Memᴰ·head, List·
 use Prim.Native.Nat.{ℕ, zero, suc}
 use native.Mathlib.Omega.{arith}
 use lib.ListN.{length, length-append, length-map}
-use Rattle.counting.specs.Numbers.{choose}
+use Rattle.numbers.specs.Numbers.{choose}
 use Rattle.listings.specs.Bytes.{Bytes}
 use Rattle.listings.specs.Listings.{Ascending, none, more, Listing}
 use Rattle.listings.proofs.AscendingRules.{ascending-append, ascending-map}

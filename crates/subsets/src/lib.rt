@@ -4,8 +4,8 @@ ghost use mathlib.Core.Bool.{true};
 ghost use mathlib.Core.List.{List};
 ghost use Prim.Native.Nat.{ℕ, _≤_, _<_, _^_};
 ghost use lib.ListN.{length};
-ghost use Rattle.counting.specs.Limits.{places};
-ghost use Rattle.counting.specs.Numbers.{choose};
+ghost use Rattle.numbers.specs.Limits.{places};
+ghost use Rattle.numbers.specs.Numbers.{choose};
 ghost use Rattle.listings.specs.Calls.{NEXT, PREVIOUS, Said, act};
 ghost use Rattle.listings.specs.Places.{At, First, Last, countBefore};
 ghost use Rattle.listings.specs.Steps.{stepAs};
@@ -14,12 +14,12 @@ ghost use Rattle.subsets.specs.Listing.{subsets};
 
 mod search;
 
+use binomials::coefficient;
 use listings::Step;
 use listings::fill_up;
 use search::largest_top;
 use search::number_to_lower;
 use search::number_to_raise;
-use search::ways;
 use search::wide;
 
 // Does the slice hold a subset of k out of 1 to n?
@@ -106,7 +106,7 @@ pub fn rank(n: u64, object: &[u8]) -> u64
     }
     let end = k - 1;
     let top = wide(object[end]) - 1;
-    ways(top, k as u64) + rank(top, &object[..end])
+    coefficient(top, k as u64) + rank(top, &object[..end])
 }
 
 // The object of a rank: its last number leaves as many below it as fit into the rank, and the others make up the rest.
@@ -121,8 +121,9 @@ pub fn unrank(n: u64, rank: u64, object: &mut [u8])
         return;
     }
     let end = k - 1;
-    let top = largest_top(n, k as u64, rank);
-    let rest = rank - ways(top, k as u64);
+    let found = largest_top(n, k as u64, rank);
+    let top = found.0;
+    let rest = rank - found.1;
     object[end] = (top + 1) as u8;
     unrank(top, rest, &mut object[..end]);
 }

@@ -3,9 +3,9 @@ ghost use mathlib.Core.Path.{_≡_};
 ghost use mathlib.Core.Bool.{true};
 ghost use Prim.Native.Nat.{ℕ, suc, _+_, _≤_, _<_, _^_};
 ghost use lib.ListN.{length, getD};
-ghost use Rattle.counting.specs.Limits.{places};
-ghost use Rattle.counting.specs.Numbers.{choose};
-use counting::coefficient_that_fits;
+ghost use Rattle.numbers.specs.Limits.{places};
+ghost use Rattle.numbers.specs.Numbers.{choose};
+use binomials::coefficient;
 
 pub fn wide(b: u8) -> u64
     ensures { λ r. ⌜ r ≡ b ⌝ }
@@ -52,23 +52,20 @@ pub fn number_to_lower(object: &[u8]) -> usize
     i
 }
 
-// k out of m, where that fits.
-pub fn ways(m: u64, k: u64) -> u64
-    requires { ⌜ (m ≤ places) × ((k ≤ places) × (choose m k < 2 ^ 64)) ⌝ }
-    ensures { λ r. ⌜ r ≡ choose m k ⌝ }
-{
-    coefficient_that_fits(m, k)
-}
+// The largest number below n out of which at most rank subsets of k can be made, and how many can.
+pub struct Top(pub u64, pub u64);
 
-// The largest number below n out of which at most rank subsets of k can be made.
-pub fn largest_top(n: u64, k: u64, rank: u64) -> u64
-    requires { ⌜ (n ≤ places) × ((k ≤ places) × (choose n k < 2 ^ 64)) ⌝ }
+pub fn largest_top(n: u64, k: u64, rank: u64) -> Top
+    requires { ⌜ (n ≤ places) × (choose n k < 2 ^ 64) ⌝ }
     requires { ⌜ (0 < k) × (rank < choose n k) ⌝ }
-    ensures { λ r. ⌜ (r < n) × ((choose r k ≤ rank) × (rank < choose (suc r) k)) ⌝ }
+    ensures { λ r. ⌜ (r .0 < n) × ((r .1 ≡ choose (r .0) k) × ((choose (r .0) k ≤ rank) × (rank < choose (suc (r .0)) k))) ⌝ }
 {
     let mut m = n;
-    while rank < ways(m, k) {
+    loop {
         m -= 1;
+        let below = coefficient(m, k);
+        if below <= rank {
+            return Top(m, below);
+        }
     }
-    m
 }

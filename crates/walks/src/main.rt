@@ -1,10 +1,19 @@
-// Drives the public calls over many small families of all six kinds, forward, back, and by rank; then over refusals of every number; then
-// over families at both edges of 2^64 and at 80 places.
+// Runs the cases of the files that its arguments name. A case is a line, with one blank between any two words:
 //
-// The expected text, `stdout`, was made by a Python program of its own. Small families: strings filtered by the table's words and sorted by a
-// comparison written from "Which of two objects comes first". Refusals and large families: objects by rank, counted place by place as Loehr
-// does, a step being the rank one up or down; so there the order rests on the same recursion as our listings.
-
+//     LETTERS KIND N K RANK / COUNTS / OBJECT / LABEL
+//
+// It prints the label, and then for each letter what it asks of that family with those counts, that rank and that object:
+//
+//     c r          COUNT, RANK
+//     f l n p u    FIRST, LAST, NEXT, PREVIOUS, UNRANK: the answer's code, 1, and a digest of the object
+//     F L N P U    the same: the object, or done
+//     w b t        a walk to the end, by FIRST and NEXT, by LAST and PREVIOUS, or through the ranks by UNRANK, with RANK of each object:
+//                  the last answer's code, the number of objects met, and a digest of them
+//     > <          300 steps by FIRST and NEXT, or by LAST and PREVIOUS, whatever they answer: the same, with the first answer's code
+//     a z          a listing, by FIRST and NEXT with each object's rank and the object of that rank, or by LAST and PREVIOUS
+//
+// A code is 100 for done, 101 for moved, 102 for END, or the number of the question missed, and 1000 more from COUNT and RANK.
+ghost use mathlib.Core.Path.{_≡_};
 ghost use Prim.Native.Nat.{_≤_};
 ghost use lib.ListN.{length};
 use families::Counted;
@@ -14,10 +23,26 @@ use families::Stepped;
 use families::Written;
 use libc::STDOUT_FILENO;
 
-// What is kept of a walk: how many objects it met, and a digest of their bytes.
-pub struct Digest {
-    pub met: u64,
+// More objects than any walk to the end meets here.
+const TO_THE_END: u64 = 5000;
+
+// An answer's code, the number of objects met, and a digest of them.
+pub struct Met {
+    pub code: u64,
+    pub objects: u64,
     pub sum: u64,
+}
+
+// A number read from a line, and where the next word begins.
+pub struct Read {
+    pub value: u64,
+    pub end: usize,
+}
+
+// How many bytes were read from a line, and where the stroke behind them stands.
+pub struct Lent {
+    pub len: usize,
+    pub stroke: usize,
 }
 
 fn text(s: &[u8]) {
@@ -25,8 +50,8 @@ fn text(s: &[u8]) {
 }
 
 fn number(n: u64) {
-    io::print_decimal(STDOUT_FILENO, n);
     text(b" ");
+    io::print_decimal(STDOUT_FILENO, n);
 }
 
 fn wide(b: u8) -> u64
@@ -35,328 +60,307 @@ fn wide(b: u8) -> u64
     b as u64
 }
 
-// One byte more.
-fn mixed(sum: u64, v: u64) -> u64 {
-    (sum % 1000003 * 257 + v % 1000003 + 1) % 1000003
-}
-
-// One object more.
-fn with_object(d: Digest, object: &[u8]) -> Digest {
-    let mut sum = d.sum;
+fn bytes(object: &[u8]) {
     let mut i = 0;
     while i < object.len() {
-        sum = mixed(sum, wide(object[i]));
+        number(wide(object[i]));
         i += 1;
     }
-    Digest {
-        met: d.met % 1000000 + 1,
-        sum: mixed(sum, 300),
+}
+
+fn told(m: Met) {
+    number(m.code);
+    number(m.objects);
+    number(m.sum);
+}
+
+// The digest with one object more.
+fn digest(before: u64, object: &[u8]) -> u64 {
+    let mut sum = before;
+    let mut i = 0;
+    while i < object.len() {
+        sum = (sum % 1000003 * 257 + wide(object[i]) + 1) % 1000003;
+        i += 1;
+    }
+    (sum % 1000003 * 257 + 301) % 1000003
+}
+
+fn call(letter: u8, f: Family, counts: &[u8], rank: u64, object: &mut [u8]) -> u64 {
+    match letter {
+        b'c' => match families::count(f, counts) {
+            Counted::Objects(n) => n,
+            Counted::Refused(q) => 1000 + wide(q),
+        },
+        b'r' => match families::rank(f, counts, object) {
+            Ranked::Rank(v) => v,
+            Ranked::Refused(q) => 1000 + wide(q),
+        },
+        b'n' => match families::next(f, counts, object) {
+            Stepped::Moved => 101,
+            Stepped::End => 102,
+            Stepped::Refused(q) => wide(q),
+        },
+        b'p' => match families::previous(f, counts, object) {
+            Stepped::Moved => 101,
+            Stepped::End => 102,
+            Stepped::Refused(q) => wide(q),
+        },
+        b'f' => match families::first(f, counts, object) {
+            Written::Done => 100,
+            Written::Refused(q) => wide(q),
+        },
+        b'l' => match families::last(f, counts, object) {
+            Written::Done => 100,
+            Written::Refused(q) => wide(q),
+        },
+        _ => match families::unrank(f, counts, rank, object) {
+            Written::Done => 100,
+            Written::Refused(q) => wide(q),
+        },
     }
 }
 
-fn print_digest(d: Digest) {
-    number(d.met);
-    number(d.sum);
-}
-
-fn nothing() -> Digest {
-    Digest { met: 0, sum: 0 }
-}
-
-fn counted(f: Family, counts: &[u8]) -> u64 {
-    match families::count(f, counts) {
-        Counted::Objects(n) => n,
-        Counted::Refused(q) => 1000 + (q as u64),
+fn shown(code: u64, object: &[u8]) {
+    match code {
+        100 | 101 => bytes(object),
+        102 => text(b" done"),
+        _ => number(code),
     }
 }
 
-fn written(w: Written) -> u64 {
-    match w {
-        Written::Done => 100,
-        Written::Refused(q) => q as u64,
-    }
+// An object, its rank, and the object of that rank, written over zeros.
+fn with_rank(f: Family, counts: &[u8], object: &mut [u8]) {
+    bytes(object);
+    text(b" :");
+    let rank = call(b'r', f, counts, 0, object);
+    number(rank);
+    text(b" :");
+    listings::fill_with(object, 0);
+    call(b'u', f, counts, rank, object);
+    bytes(object);
 }
 
-fn stepped(s: Stepped) -> u64 {
-    match s {
-        Stepped::Moved => 101,
-        Stepped::End => 102,
-        Stepped::Refused(q) => q as u64,
-    }
-}
-
-fn ranked(r: Ranked) -> u64 {
-    match r {
-        Ranked::Rank(v) => v,
-        Ranked::Refused(q) => 1000 + (q as u64),
-    }
-}
-
-// FIRST and NEXT until END.
-fn walk_on(f: Family, counts: &[u8], object: &mut [u8]) -> Digest {
-    let mut d = nothing();
-    let mut answer = written(families::first(f, counts, object));
-    let mut left: u64 = 5000;
-    while answer >= 100 && answer < 102 && 0 < left {
-        d = with_object(d, object);
-        answer = stepped(families::next(f, counts, object));
-        left -= 1;
-    }
-    number(answer);
-    d
-}
-
-// LAST and PREVIOUS until END.
-fn walk_back(f: Family, counts: &[u8], object: &mut [u8]) -> Digest {
-    let mut d = nothing();
-    let mut answer = written(families::last(f, counts, object));
-    let mut left: u64 = 5000;
-    while answer >= 100 && answer < 102 && 0 < left {
-        d = with_object(d, object);
-        answer = stepped(families::previous(f, counts, object));
-        left -= 1;
-    }
-    number(answer);
-    d
-}
-
-fn differs() {
-    text(b"rank differs ");
-}
-
-// UNRANK of each rank until it is refused, and RANK of what it wrote.
-fn by_rank(f: Family, counts: &[u8], object: &mut [u8]) -> Digest {
-    let mut d = nothing();
-    let mut r: u64 = 0;
-    let mut answer = written(families::unrank(f, counts, r, object));
-    while answer == 100 && r < 5000 {
-        d = with_object(d, object);
-        if ranked(families::rank(f, counts, object)) != r {
-            differs();
+// What a walk prints of the object that it meets.
+fn meet(letter: u8, rank: u64, f: Family, counts: &[u8], object: &mut [u8]) {
+    match letter {
+        b'a' => {
+            text(b"\n");
+            with_rank(f, counts, object);
         }
-        r += 1;
-        answer = written(families::unrank(f, counts, r, object));
+        b'z' => {
+            text(b"\n");
+            bytes(object);
+        }
+        b't' => {
+            if call(b'r', f, counts, 0, object) != rank {
+                text(b" rank differs");
+            }
+        }
+        _ => {}
     }
-    number(answer);
-    d
 }
 
-// All of a family, in a buffer of the given length.
-fn family(f: Family, counts: &[u8], object: &mut [u8]) {
-    number(f.kind);
-    number(f.n);
-    number(f.k);
-    number(counted(f, counts));
-    print_digest(walk_on(f, counts, object));
-    print_digest(walk_back(f, counts, object));
-    print_digest(by_rank(f, counts, object));
-    text(b"\n");
+fn walk(
+    letter: u8,
+    start: u8,
+    step: u8,
+    limit: u64,
+    f: Family,
+    counts: &[u8],
+    object: &mut [u8],
+) -> Met {
+    let mut sum = 0;
+    let mut met = 0;
+    let mut code = call(start, f, counts, 0, object);
+    while 99 < code && code < 102 && met < limit {
+        sum = digest(sum, object);
+        meet(letter, met, f, counts, object);
+        met += 1;
+        let answer = call(step, f, counts, met, object);
+        if limit == TO_THE_END {
+            code = answer;
+        }
+    }
+    Met {
+        code,
+        objects: met,
+        sum,
+    }
 }
 
-fn at_most_80(len: u64) -> usize
+fn operation(letter: u8, f: Family, counts: &[u8], rank: u64, object: &mut [u8]) {
+    match letter {
+        b'c' | b'r' => number(call(letter, f, counts, rank, object)),
+        b'A'..=b'Z' => shown(call(letter + 32, f, counts, rank, object), object),
+        b'w' => told(walk(letter, b'f', b'n', TO_THE_END, f, counts, object)),
+        b'b' => told(walk(letter, b'l', b'p', TO_THE_END, f, counts, object)),
+        b't' => told(walk(letter, b'u', b'u', TO_THE_END, f, counts, object)),
+        b'>' => told(walk(letter, b'f', b'n', 300, f, counts, object)),
+        b'<' => told(walk(letter, b'l', b'p', 300, f, counts, object)),
+        b'a' => {
+            walk(letter, b'f', b'n', TO_THE_END, f, counts, object);
+        }
+        b'z' => {
+            walk(letter, b'l', b'p', TO_THE_END, f, counts, object);
+        }
+        _ => {
+            let code = call(letter, f, counts, rank, object);
+            told(Met {
+                code,
+                objects: 1,
+                sum: digest(0, object),
+            });
+        }
+    }
+}
+
+// The letters, up to the first blank.
+fn operations(line: &[u8], f: Family, counts: &[u8], rank: u64, object: &mut [u8]) {
+    let mut i = 0;
+    while i < line.len() {
+        if line[i] == b' ' {
+            return;
+        }
+        operation(line[i], f, counts, rank, object);
+        i += 1;
+    }
+}
+
+// The number with one digit more, or the largest where that is too large.
+fn with_digit(value: u64, letter: u64) -> u64
+    requires { ⌜ 48 ≤ letter ⌝ }
+{
+    let digit = letter - 48;
+    if 1844674407370955161 < value {
+        return 18446744073709551615;
+    }
+    if 18446744073709551615 - value * 10 < digit {
+        return 18446744073709551615;
+    }
+    value * 10 + digit
+}
+
+fn decimal(line: &[u8], start: usize) -> Read {
+    let mut value = 0;
+    let mut at = start;
+    while at < line.len() {
+        let letter = wide(line[at]);
+        at += 1;
+        if letter < 48 {
+            return Read { value, end: at };
+        }
+        value = with_digit(value, letter);
+    }
+    Read { value, end: at }
+}
+
+fn is_stroke(line: &[u8], at: usize) -> bool {
+    if at < line.len() {
+        return line[at] == b'/';
+    }
+    true
+}
+
+// Where the word behind a stroke and a blank begins.
+fn behind(line: &[u8], stroke: usize) -> usize
+    ensures { λ r. ⌜ r ≤ length (now (line .entry)) ⌝ }
+{
+    if line.len() < 2 {
+        return line.len();
+    }
+    if line.len() - 2 < stroke {
+        return line.len();
+    }
+    stroke + 2
+}
+
+// Reads the bytes between a stroke and the next.
+fn list(line: &[u8], stroke: usize, out: &mut [u8]) -> Lent {
+    let mut len = 0;
+    let mut at = behind(line, stroke);
+    while len < out.len() && !is_stroke(line, at) {
+        let d = decimal(line, at);
+        out[len] = (d.value % 256) as u8;
+        at = d.end;
+        len += 1;
+    }
+    Lent { len, stroke: at }
+}
+
+// Where the letter stands, or the end.
+fn until(s: &[u8], start: usize, letter: u8) -> usize
+    requires { ⌜ start ≤ length (now s) ⌝ }
+    ensures { λ r. ⌜ (start ≤ r) × (r ≤ length (now (s .entry))) ⌝ }
+{
+    let mut at = start;
+    while at < s.len() {
+        if s[at] == letter {
+            return at;
+        }
+        at += 1;
+    }
+    at
+}
+
+fn at_most_80(n: usize) -> usize
     ensures { λ r. ⌜ r ≤ 80 ⌝ }
 {
-    if 80 < len {
+    if 80 < n {
         return 80;
     }
-    len as usize
+    n
 }
 
-fn one_family(kind: u64, n: u64, k: u64, len: u64) {
+fn one_case(line: &[u8]) {
+    let mut counts = [0u8; 80];
     let mut object = [0u8; 80];
-    let end = at_most_80(len);
-    family(Family { kind, n, k }, b"", &mut object[..end]);
-}
-
-// Every k from 0 to 6.
-fn families_of(n: u64) {
-    let mut k: u64 = 0;
-    while k <= 6 {
-        one_family(1, n, k, k);
-        one_family(4, n, k, n);
-        one_family(5, n, k, k);
-        k += 1;
-    }
-}
-
-fn small_families() {
-    let mut n: u64 = 0;
-    while n <= 6 {
-        families_of(n);
-        one_family(3, n, 0, n);
-        one_family(6, n, 0, 2 * n);
-        n += 1;
-    }
-}
-
-fn word_family(a: u8, b: u8, c: u8) {
-    let counts = [a, b, c];
-    let mut object = [0u8; 80];
-    let end = at_most_80(wide(a) + wide(b) + wide(c));
-    number(wide(a));
-    number(wide(b));
-    number(wide(c));
-    family(
-        Family {
-            kind: 2,
-            n: 3,
-            k: 0,
-        },
-        &counts,
-        &mut object[..end],
-    );
-}
-
-fn word_families(a: u8) {
-    let mut b: u8 = 0;
-    while b < 4 {
-        word_family(a, b, 0);
-        word_family(a, b, 1);
-        word_family(a, b, 2);
-        b += 1;
-    }
-}
-
-fn print_object(object: &[u8]) {
-    print_digest(with_object(nothing(), object));
-}
-
-fn steps(f: Family, counts: &[u8], object: &mut [u8]) {
-    number(stepped(families::next(f, counts, object)));
-    print_object(object);
-    number(stepped(families::previous(f, counts, object)));
-    print_object(object);
-}
-
-fn writes(f: Family, counts: &[u8], rank: u64, object: &mut [u8]) {
-    number(written(families::unrank(f, counts, rank, object)));
-    print_object(object);
-    number(written(families::last(f, counts, object)));
-    print_object(object);
-    number(written(families::first(f, counts, object)));
-    print_object(object);
-}
-
-// Every call once on the bytes 1, 2, .., and whether the bytes stayed.
-fn calls(f: Family, counts: &[u8], rank: u64, object: &mut [u8])
-    requires { ⌜ length (now object) ≤ 80 ⌝ }
-{
-    listings::fill_up(object, 1);
-    number(counted(f, counts));
-    number(ranked(families::rank(f, counts, object)));
-    steps(f, counts, object);
-    writes(f, counts, rank, object);
+    // A word of letters is passed as a number is.
+    let kind = decimal(line, decimal(line, 0).end);
+    let n = decimal(line, kind.end);
+    let k = decimal(line, n.end);
+    let rank = decimal(line, k.end);
+    let letters = list(line, rank.end, &mut counts);
+    let places = list(line, letters.stroke, &mut object);
+    let c = at_most_80(letters.len);
+    let o = at_most_80(places.len);
+    let label = behind(line, places.stroke);
+    text(&line[label..]);
+    let f = Family {
+        kind: kind.value,
+        n: n.value,
+        k: k.value,
+    };
+    operations(line, f, &counts[..c], rank.value, &mut object[..o]);
     text(b"\n");
 }
 
-// In a buffer of the given length.
-fn on_numbers(kind: u64, n: u64, k: u64, rank: u64, counts: &[u8], len: u64) {
-    let mut object = [0u8; 80];
-    let end = at_most_80(len);
-    calls(Family { kind, n, k }, counts, rank, &mut object[..end]);
-}
-
-fn refusals() {
-    on_numbers(0, 4, 2, 0, b"", 2);
-    on_numbers(7, 4, 2, 0, b"", 2);
-    on_numbers(18446744073709551615, 4, 2, 0, b"", 2);
-    on_numbers(1, 81, 2, 0, b"", 2);
-    on_numbers(1, 4, 81, 0, b"", 2);
-    on_numbers(3, 4, 1, 0, b"", 4);
-    on_numbers(6, 41, 0, 0, b"", 80);
-    on_numbers(2, 3, 0, 0, &[1, 1], 2);
-    on_numbers(2, 2, 0, 0, &[80, 1], 2);
-    on_numbers(1, 4, 2, 0, &[0], 2);
-    on_numbers(1, 2, 4, 0, b"", 4);
-    on_numbers(4, 3, 0, 0, b"", 3);
-    on_numbers(5, 3, 0, 0, b"", 0);
-    on_numbers(5, 3, 4, 0, b"", 4);
-    on_numbers(1, 80, 40, 0, b"", 40);
-    on_numbers(3, 21, 0, 0, b"", 21);
-    on_numbers(1, 4, 2, 0, b"", 3);
-    on_numbers(6, 2, 0, 0, b"", 4);
-    on_numbers(5, 7, 3, 0, b"", 3);
-    on_numbers(4, 4, 2, 0, b"", 4);
-    on_numbers(1, 4, 2, 6, b"", 2);
-    on_numbers(1, 4, 2, 18446744073709551615, b"", 2);
-    on_numbers(1, 4, 2, 5, b"", 2);
-}
-
-// From FIRST 300 steps on, then LAST and 300 steps back.
-fn on_and_back(f: Family, counts: &[u8], object: &mut [u8]) {
-    number(f.kind);
-    number(f.n);
-    number(f.k);
-    number(counted(f, counts));
-    print_digest(steps_on(f, counts, object));
-    print_digest(steps_back(f, counts, object));
-    number(written(families::unrank(f, counts, 1234567890123456789, object)));
-    print_object(object);
-    number(ranked(families::rank(f, counts, object)));
-    text(b"\n");
-}
-
-fn edge(kind: u64, n: u64, k: u64, counts: &[u8], len: u64) {
-    let mut object = [0u8; 80];
-    let end = at_most_80(len);
-    on_and_back(Family { kind, n, k }, counts, &mut object[..end]);
-}
-
-fn steps_on(f: Family, counts: &[u8], object: &mut [u8]) -> Digest {
-    let mut d = nothing();
-    number(written(families::first(f, counts, object)));
-    let mut i: u64 = 0;
-    while i < 300 {
-        d = with_object(d, object);
-        stepped(families::next(f, counts, object));
-        i += 1;
+fn cases(s: &[u8]) {
+    let mut at = 0;
+    while at < s.len() {
+        let end = until(s, at, b'\n');
+        one_case(&s[at..end]);
+        if end == s.len() {
+            return;
+        }
+        at = end + 1;
     }
-    d
 }
 
-fn steps_back(f: Family, counts: &[u8], object: &mut [u8]) -> Digest {
-    let mut d = nothing();
-    number(written(families::last(f, counts, object)));
-    let mut i: u64 = 0;
-    while i < 300 {
-        d = with_object(d, object);
-        stepped(families::previous(f, counts, object));
-        i += 1;
-    }
-    d
-}
-
-fn edges() {
-    edge(1, 67, 33, b"", 33);
-    edge(1, 68, 34, b"", 34);
-    edge(1, 80, 21, b"", 21);
-    edge(1, 80, 40, b"", 40);
-    edge(1, 80, 80, b"", 80);
-    edge(2, 2, 0, &[33, 34], 67);
-    edge(2, 2, 0, &[40, 40], 80);
-    edge(2, 5, 0, &[0, 6, 0, 7, 8], 21);
-    edge(2, 80, 0, &[1; 80], 80);
-    edge(3, 20, 0, b"", 20);
-    edge(3, 21, 0, b"", 21);
-    edge(3, 80, 0, b"", 80);
-    edge(4, 26, 9, b"", 26);
-    edge(4, 27, 8, b"", 27);
-    edge(4, 65, 2, b"", 65);
-    edge(4, 66, 2, b"", 66);
-    edge(4, 80, 40, b"", 80);
-    edge(5, 80, 18, b"", 18);
-    edge(5, 80, 80, b"", 80);
-    edge(6, 36, 0, b"", 72);
-    edge(6, 37, 0, b"", 74);
-    edge(6, 40, 0, b"", 80);
+fn file(i: usize) {
+    let mut name = io::buffer();
+    let length = os::arg(i, &mut name);
+    let fd = os::open_read(&name[..length]);
+    let mut input = io::large_buffer();
+    let read = io::read_full(fd, &mut input);
+    libc::close(fd);
+    cases(&input[..read]);
 }
 
 fn main() {
-    small_families();
-    word_families(0);
-    word_families(1);
-    word_families(2);
-    word_families(3);
-    refusals();
-    edges();
+    let end = os::arg_count();
+    let mut i = 1;
+    while i < end {
+        file(i);
+        i += 1;
+    }
 }

@@ -4,7 +4,7 @@ use Prim.Native.Nat.{_-_}
 use native.Mathlib.Omega.{arith}
 use mathlib.Core.Path.{sym, _∙_}
 use lib.ListN.{length}
-use Rattle.counting.proofs.Totals.{total-drop}
+use Rattle.numbers.proofs.Totals.{total-drop}
 use Rattle.anagrams.proofs.Sorted.{Written, written-none, written-more, written-all}
 use borrow.Author.Needs.{needs}
 use Rattle.anagrams.proofs.first.Statement.{statement}

@@ -17,14 +17,17 @@ add-end c = search needs
 loop-holds : tie.Need-loop-holds Inv-loop μ-loop
 loop-holds c = search needs
 
-binomials-requires : tie.Need-binomials-requires Inv-loop μ-loop
-binomials-requires c κs = search needs
+agree-requires : tie.Need-agree-requires Inv-loop μ-loop
+agree-requires c κs = search needs
 
-stirlings-requires : tie.Need-stirlings-requires Inv-loop μ-loop
-stirlings-requires c κs = search needs
+two-requires : tie.Need-two-requires Inv-loop μ-loop
+two-requires c κs = search needs
 
-partitions-requires : tie.Need-partitions-requires Inv-loop μ-loop
-partitions-requires c κs = search needs
+two-requires-2 : tie.Need-two-requires-2 Inv-loop μ-loop
+two-requires-2 c κs = search needs
+
+two-requires-3 : tie.Need-two-requires-3 Inv-loop μ-loop
+two-requires-3 c κs = search needs
 
 add-k : tie.Need-add-k Inv-loop μ-loop
 add-k c = search needs
@@ -35,11 +38,11 @@ loop-less c = search needs
 loop-again : tie.Need-loop-again Inv-loop μ-loop
 loop-again c = search needs
 
-factorials-requires : tie.Need-factorials-requires Inv-loop μ-loop
-factorials-requires c κs = search needs
+one-requires : tie.Need-one-requires Inv-loop μ-loop
+one-requires c κs = search needs
 
-catalans-requires : tie.Need-catalans-requires Inv-loop μ-loop
-catalans-requires c κs = search needs
+one-requires-2 : tie.Need-one-requires-2 Inv-loop μ-loop
+one-requires-2 c κs = search needs
 
 returns : tie.Need-returns Inv-loop μ-loop
 returns c = search needs
@@ -52,12 +55,13 @@ rows-spec =
     μ-loop
     add-end
     loop-holds
-    binomials-requires
-    stirlings-requires
-    partitions-requires
+    agree-requires
+    two-requires
+    two-requires-2
+    two-requires-3
     add-k
     loop-less
     loop-again
-    factorials-requires
-    catalans-requires
+    one-requires
+    one-requires-2
     returns)

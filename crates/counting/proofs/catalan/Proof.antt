@@ -1,13 +1,12 @@
--- `counting::catalan` meets its contract: the table up to 36, and from 37 on they are too large.
+-- `counting::catalan` meets its contract: up to 36 it is below 2^64, and from 37 on it is not.
 -- Assumes nothing.
-use mathlib.Core.Path.{sym, _∙_}
+use mathlib.Core.Path.{sym}
 use native.Mathlib.Omega.{arith}
 use borrow.Author.Needs.{needs}
 use borrow.Author.Tests.{le-leb, lt-leb}
-use Rattle.counting.specs.Limits.{branches}
+use Rattle.numbers.specs.Limits.{branches}
+use Rattle.numbers.proofs.Catalans.{catalan-small, catalan-large}
 use Rattle.counting.proofs.Answers.{exactly-within, large-within, within-out}
-use Rattle.counting.proofs.CatalanTable.{table-entry}
-use Rattle.counting.proofs.Catalans.{catalan-small, catalan-large}
 use Rattle.counting.proofs.catalan.Statement.{statement}
 use Rattle.counting.proofs.catalan.Tie as tie
 
@@ -17,13 +16,13 @@ returns c = sym (within-out _ _ (lt-leb (c .before .args .n) branches (c .if1 .t
 returns-2 : tie.Need-returns-2
 returns-2 c = large-within (le-leb (c .before .before .args .n) branches (c .before .if1 .left)) (catalan-large (c .if2 .taken))
 
-entry-requires : tie.Need-entry-requires
-entry-requires c κs = search needs
+catalan-requires : tie.Need-catalan-requires
+catalan-requires c κs = search needs
 
 returns-3 : tie.Need-returns-3
 returns-3 c =
     let n = c .before .before .before .args .n in
-    exactly-within (le-leb n branches (omega arith)) (c .entry .ensures ∙ table-entry n (omega arith)) (catalan-small (c .before .if2 .left))
+    exactly-within (le-leb n branches (omega arith)) (c .catalan .ensures) (catalan-small (c .before .if2 .left))
 
 pub catalan-spec : {M : Type 1} → statement M
-catalan-spec = tie.close (tie.spec returns returns-2 entry-requires returns-3)
+catalan-spec = tie.close (tie.spec returns returns-2 catalan-requires returns-3)

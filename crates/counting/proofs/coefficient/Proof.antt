@@ -1,38 +1,34 @@
--- `counting::coefficient` meets its contract: nothing beside the triangle, and the entries within it.
+-- `counting::coefficient` meets its contract: the limits, then whether it fits, then the number.
 -- Assumes nothing.
 use mathlib.Core.Path.{sym, _∙_}
 use native.Mathlib.Omega.{arith}
 use borrow.Author.Needs.{needs}
-use Rattle.counting.specs.Limits.{places}
-use Rattle.counting.specs.Numbers.{choose}
-use Rattle.counting.specs.Answers.{fits}
-use Rattle.counting.proofs.Answers.{within-in, within-out, exactly-within, both-in, first-out, second-out}
-use Rattle.counting.proofs.Binomials.{choose-none, choose-positive}
+use borrow.Author.Tests.{ltb-true, ltb-false, not-true, not-false}
+use Rattle.numbers.specs.Limits.{places}
+use Rattle.counting.proofs.Answers.{within-out, exactly-within, large-within, both-in, first-out, second-out}
 use Rattle.counting.proofs.coefficient.Statement.{statement}
 use Rattle.counting.proofs.coefficient.Tie as tie
 
 returns : tie.Need-returns
-returns c = sym (within-out _ (fits (choose (c .before .args .n) (c .before .args .k))) (first-out _ (c .before .args .k) places (c .if1 .taken)))
+returns c = let a = c .before .args in sym (within-out _ _ (first-out (a .n) (a .k) places (c .if1 .taken)))
 
 returns-2 : tie.Need-returns-2
-returns-2 c = sym (within-out _ (fits (choose (c .before .before .args .n) (c .before .before .args .k))) (second-out (c .before .before .args .n) _ places (c .if2 .taken)))
+returns-2 c = let a = c .before .before .args in sym (within-out _ _ (second-out (a .n) (a .k) places (c .if2 .taken)))
+
+coefficient-fits-requires : tie.Need-coefficient-fits-requires
+coefficient-fits-requires c κs = search needs
 
 returns-3 : tie.Need-returns-3
-returns-3 c =
-    let none = choose-none (c .before .before .before .args .n) (c .before .before .before .args .k) (c .if3 .taken) in
-    exactly-within (both-in _ _ places (c .before .before .if1 .left) (c .before .if2 .left)) (sym none) (omega arith)
+returns-3 c = let a = c .before .before .before .before .args in
+    large-within (both-in (a .n) (a .k) places (omega arith) (omega arith)) (ltb-false _ _ (sym (c .before .coefficient-fits .ensures) ∙ not-true _ (c .if3 .taken)))
 
-entry-requires : tie.Need-entry-requires
-entry-requires c κs = search needs
-
-told-requires : tie.Need-told-requires
-told-requires c κs = search needs
+coefficient-requires : tie.Need-coefficient-requires
+coefficient-requires c κs = (omega arith, ltb-true _ _ (sym (c .before .coefficient-fits .ensures) ∙ not-false _ (c .if3 .left)))
 
 returns-4 : tie.Need-returns-4
-returns-4 c =
-    let a = c .before .before .before .before .before .args in
-    c .told .ensures (choose (a .n) (a .k)) (choose-positive (a .n) (a .k) (omega arith)) (c .before .entry .ensures)
-    ∙ sym (within-in _ _ (both-in _ _ places (c .before .before .before .before .if1 .left) (c .before .before .before .if2 .left)))
+returns-4 c = let a = c .before .before .before .before .before .args in
+    exactly-within (both-in (a .n) (a .k) places (omega arith) (omega arith)) (c .coefficient .ensures) (ltb-true _ _ (sym (c .before .before .coefficient-fits .ensures) ∙ not-false _ (c .before .if3 .left)))
 
 pub coefficient-spec : {M : Type 1} → statement M
-coefficient-spec = tie.close (tie.spec returns returns-2 returns-3 entry-requires told-requires returns-4)
+coefficient-spec =
+    tie.close (tie.spec returns returns-2 coefficient-fits-requires returns-3 coefficient-requires returns-4)

@@ -1,12 +1,11 @@
--- `counting::stirling` meets its contract: the counts that are 0, and that of no models, need no table.
+-- `counting::stirling` meets its contract: the limits, then whether it fits, then the number.
 -- Assumes nothing.
-use borrow.Author.Needs.{needs}
-use mathlib.Core.Path.{_≡_, sym, _∙_}
+use mathlib.Core.Path.{sym, _∙_}
 use native.Mathlib.Omega.{arith}
-use Rattle.counting.specs.Limits.{places}
-use Rattle.counting.specs.Numbers.{stirlingOf}
-use Rattle.counting.proofs.Answers.{within-in, within-out, exactly-within, both-in, first-out, second-out}
-use Rattle.counting.proofs.Stirlings.{stirling-none, stirling-zero, stirling-corner}
+use borrow.Author.Needs.{needs}
+use borrow.Author.Tests.{ltb-true, ltb-false, not-true, not-false}
+use Rattle.numbers.specs.Limits.{places}
+use Rattle.counting.proofs.Answers.{within-out, exactly-within, large-within, both-in, first-out, second-out}
 use Rattle.counting.proofs.stirling.Statement.{statement}
 use Rattle.counting.proofs.stirling.Tie as tie
 
@@ -16,33 +15,20 @@ returns c = let a = c .before .args in sym (within-out _ _ (first-out (a .n) (a 
 returns-2 : tie.Need-returns-2
 returns-2 c = let a = c .before .before .args in sym (within-out _ _ (second-out (a .n) (a .k) places (c .if2 .taken)))
 
+stirling-fits-requires : tie.Need-stirling-fits-requires
+stirling-fits-requires c κs = search needs
+
 returns-3 : tie.Need-returns-3
-returns-3 c =
-    let a = c .before .before .before .args in
-    let none : stirlingOf (a .n) (a .k) ≡ 0 = stirling-none (a .n) (a .k) (c .if3 .taken) in
-    exactly-within (both-in (a .n) (a .k) places (omega arith) (omega arith)) (sym none) (omega arith)
+returns-3 c = let a = c .before .before .before .before .args in
+    large-within (both-in (a .n) (a .k) places (omega arith) (omega arith)) (ltb-false _ _ (sym (c .before .stirling-fits .ensures) ∙ not-true _ (c .if3 .taken)))
+
+stirling-requires : tie.Need-stirling-requires
+stirling-requires c κs = (omega arith, ltb-true _ _ (sym (c .before .stirling-fits .ensures) ∙ not-false _ (c .if3 .left)))
 
 returns-4 : tie.Need-returns-4
-returns-4 c =
-    let a = c .before .before .before .before .args in
-    let k-zero : a .k ≡ 0 = omega arith in
-    let one : stirlingOf (a .n) (a .k) ≡ 1 = rw (c .if4 .taken, k-zero) stirling-corner in
-    exactly-within (both-in (a .n) (a .k) places (omega arith) (omega arith)) (sym one) (omega arith)
-
-returns-5 : tie.Need-returns-5
-returns-5 c =
-    let a = c .before .before .before .before .before .args in
-    let none : stirlingOf (a .n) (a .k) ≡ 0 = rw (c .if5 .taken) (stirling-zero (a .n) (omega arith)) in
-    exactly-within (both-in (a .n) (a .k) places (omega arith) (omega arith)) (sym none) (omega arith)
-
-entry-requires : tie.Need-entry-requires
-entry-requires c κs = search needs
-
-returns-6 : tie.Need-returns-6
-returns-6 c =
-    let a = c .before .before .before .before .before .before .args in
-    c .entry .ensures ∙ sym (within-in _ _ (both-in (a .n) (a .k) places (omega arith) (omega arith)))
+returns-4 c = let a = c .before .before .before .before .before .args in
+    exactly-within (both-in (a .n) (a .k) places (omega arith) (omega arith)) (c .stirling .ensures) (ltb-true _ _ (sym (c .before .before .stirling-fits .ensures) ∙ not-false _ (c .before .if3 .left)))
 
 pub stirling-spec : {M : Type 1} → statement M
 stirling-spec =
-    tie.close (tie.spec returns returns-2 returns-3 returns-4 returns-5 entry-requires returns-6)
+    tie.close (tie.spec returns returns-2 stirling-fits-requires returns-3 stirling-requires returns-4)

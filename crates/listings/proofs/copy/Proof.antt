@@ -5,7 +5,7 @@ use mathlib.Core.List.{List, map}
 use Prim.Native.Nat.{ℕ, _+_, _-_, _≤_}
 use native.Mathlib.Omega.{arith}
 use lib.ListN.{length, getD, set}
-use Rattle.counting.specs.Sums.{range}
+use Rattle.numbers.specs.Sums.{range}
 use Rattle.listings.proofs.Fills.{filled, fill-none, fill-more, length-filled, fill-all, reading}
 use Rattle.listings.proofs.copy.Statement.{statement}
 use Rattle.listings.proofs.copy.Tie as tie

@@ -7,14 +7,13 @@ use lib.ListN.{length}
 use borrow.Author.Needs.{needs}
 use borrow.Fn.Kinds.{In}
 use borrow.Fn.PlainCycle.{Measures, is, falls, and}
-use Rattle.subsets.proofs.Moves.{few}
 use Rattle.subsets.proofs.Ranking.{below-count, rank-of-none, Parted, parted}
 use Rattle.subsets.proofs.+rank.{statement}
 use Rattle.subsets.proofs.+rank.Tie.{close}
 use Rattle.subsets.proofs.rank.Reads as rank
 use Rattle.subsets.proofs.rank.Kinds as rank-kinds
 use Rattle.subsets.proofs.+rank.Lts-rank as rank-lts
-use Rattle.subsets.proofs.search.ways.Reads as ways-reads
+use Rattle.binomials.proofs.coefficient.Reads as coefficient-reads
 use Rattle.subsets.proofs.search.wide.Reads as wide-reads
 
 abbrev μ-rank : Measures 1 rank-kinds.ps ℕ
@@ -29,8 +28,8 @@ rank-below t = and 1 rank-kinds.ps (falls 1 rank-kinds.ps _<_ μ-rank t) rank.Pr
 rank-returns : (t : ℕ) → rank-lts.Need-returns (
   wide-reads.Asked,
   wide-reads.Learnt,
-  ways-reads.Asked,
-  ways-reads.Learnt,
+  coefficient-reads.Asked,
+  coefficient-reads.Learnt,
   rank-below t,
   rank.Post,
 ) (rank-at t) rank.Post
@@ -39,8 +38,8 @@ rank-returns t c = rank-of-none (c .before .before .args .n) (c .before .before 
 rank-sub-end : (t : ℕ) → rank-lts.Need-sub-end (
   wide-reads.Asked,
   wide-reads.Learnt,
-  ways-reads.Asked,
-  ways-reads.Learnt,
+  coefficient-reads.Asked,
+  coefficient-reads.Learnt,
   rank-below t,
   rank.Post,
 ) (rank-at t) rank.Post
@@ -49,8 +48,8 @@ rank-sub-end t c = omega arith
 rank-shared-slice-read-wide : (t : ℕ) → rank-lts.Need-shared-slice-read-wide (
   wide-reads.Asked,
   wide-reads.Learnt,
-  ways-reads.Asked,
-  ways-reads.Learnt,
+  coefficient-reads.Asked,
+  coefficient-reads.Learnt,
   rank-below t,
   rank.Post,
 ) (rank-at t) rank.Post
@@ -59,8 +58,8 @@ rank-shared-slice-read-wide t c = omega arith
 rank-wide-requires : (t : ℕ) → rank-lts.Need-wide-requires (
   wide-reads.Asked,
   wide-reads.Learnt,
-  ways-reads.Asked,
-  ways-reads.Learnt,
+  coefficient-reads.Asked,
+  coefficient-reads.Learnt,
   rank-below t,
   rank.Post,
 ) (rank-at t) rank.Post
@@ -70,8 +69,8 @@ rank-wide-requires t c κs = search needs
 parts : (t : ℕ) (c : rank-lts.After-wide (
   wide-reads.Asked,
   wide-reads.Learnt,
-  ways-reads.Asked,
-  ways-reads.Learnt,
+  coefficient-reads.Asked,
+  coefficient-reads.Learnt,
   rank-below t,
   rank.Post,
 ) (rank-at t) rank.Post) → Parted (c .before .before .before .before .args .n) (length (c .before .before .before .before .args .object .now) - 1) (c .wide .result) (c .before .before .before .before .args .object .now)
@@ -80,30 +79,30 @@ parts t c = parted (c .before .before .before .before .args .n) (length (c .befo
 rank-sub-top : (t : ℕ) → rank-lts.Need-sub-top (
   wide-reads.Asked,
   wide-reads.Learnt,
-  ways-reads.Asked,
-  ways-reads.Learnt,
+  coefficient-reads.Asked,
+  coefficient-reads.Learnt,
   rank-below t,
   rank.Post,
 ) (rank-at t) rank.Post
 rank-sub-top t c = parts t c .some
 
-rank-ways-requires : (t : ℕ) → rank-lts.Need-ways-requires (
+rank-coefficient-requires : (t : ℕ) → rank-lts.Need-coefficient-requires (
   wide-reads.Asked,
   wide-reads.Learnt,
-  ways-reads.Asked,
-  ways-reads.Learnt,
+  coefficient-reads.Asked,
+  coefficient-reads.Learnt,
   rank-below t,
   rank.Post,
 ) (rank-at t) rank.Post
-rank-ways-requires t c κs =
+rank-coefficient-requires t c κs =
     let p = parts t c in
-    (omega (arith, p .high), (omega (arith, few (c .before .before .before .before .args .n) (c .before .before .before .before .args .object .now) (c .before .before .before .before .pre .1 .1 .0)), omega (arith, p .fewer)))
+    (omega (arith, p .high), omega (arith, p .fewer))
 
 rank-slice-aggregate-rank : (t : ℕ) → rank-lts.Need-slice-aggregate-rank (
   wide-reads.Asked,
   wide-reads.Learnt,
-  ways-reads.Asked,
-  ways-reads.Learnt,
+  coefficient-reads.Asked,
+  coefficient-reads.Learnt,
   rank-below t,
   rank.Post,
 ) (rank-at t) rank.Post
@@ -112,8 +111,8 @@ rank-slice-aggregate-rank t c = sym (parts t (c .before .before) .long)
 rank-rank-requires : (t : ℕ) → rank-lts.Need-rank-requires (
   wide-reads.Asked,
   wide-reads.Learnt,
-  ways-reads.Asked,
-  ways-reads.Learnt,
+  coefficient-reads.Asked,
+  coefficient-reads.Learnt,
   rank-below t,
   rank.Post,
 ) (rank-at t) rank.Post
@@ -124,8 +123,8 @@ rank-rank-requires t c κs =
 rank-add-result : (t : ℕ) → rank-lts.Need-add-result (
   wide-reads.Asked,
   wide-reads.Learnt,
-  ways-reads.Asked,
-  ways-reads.Learnt,
+  coefficient-reads.Asked,
+  coefficient-reads.Learnt,
   rank-below t,
   rank.Post,
 ) (rank-at t) rank.Post
@@ -134,8 +133,8 @@ rank-add-result t c = omega (arith, parts t (c .before .before .before) .rank, b
 rank-returns-2 : (t : ℕ) → rank-lts.Need-returns-2 (
   wide-reads.Asked,
   wide-reads.Learnt,
-  ways-reads.Asked,
-  ways-reads.Learnt,
+  coefficient-reads.Asked,
+  coefficient-reads.Learnt,
   rank-below t,
   rank.Post,
 ) (rank-at t) rank.Post
@@ -145,8 +144,8 @@ pub +rank-spec : {M : Type 1} → statement M
 +rank-spec = close μ-rank λ t. rank-lts.spec (
   wide-reads.Asked,
   wide-reads.Learnt,
-  ways-reads.Asked,
-  ways-reads.Learnt,
+  coefficient-reads.Asked,
+  coefficient-reads.Learnt,
   rank-below t,
   rank.Post,
 )
@@ -157,7 +156,7 @@ pub +rank-spec : {M : Type 1} → statement M
     (rank-shared-slice-read-wide t)
     (rank-wide-requires t)
     (rank-sub-top t)
-    (rank-ways-requires t)
+    (rank-coefficient-requires t)
     (rank-slice-aggregate-rank t)
     (rank-rank-requires t)
     (rank-add-result t)

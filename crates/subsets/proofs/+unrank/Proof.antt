@@ -6,14 +6,13 @@ use lib.ListN.{length, length-set}
 use borrow.Fn.Kinds.{In}
 use borrow.Fn.PlainCycle.{Measures, is, falls, and}
 use Rattle.subsets.proofs.Lent.{front-long, same-long}
-use Rattle.subsets.proofs.Ranking.{within-places, unranked, unrank-none, rest-below}
+use Rattle.subsets.proofs.Ranking.{unranked, unrank-none, rest-below}
 use Rattle.subsets.proofs.+unrank.{statement}
 use Rattle.subsets.proofs.+unrank.Tie.{close}
 use Rattle.subsets.proofs.unrank.Reads as unrank
 use Rattle.subsets.proofs.unrank.Kinds as unrank-kinds
 use Rattle.subsets.proofs.+unrank.Lts-unrank as unrank-lts
 use Rattle.subsets.proofs.search.largest_top.Reads as largest-top-reads
-use Rattle.subsets.proofs.search.ways.Reads as ways-reads
 
 abbrev μ-unrank : Measures 1 unrank-kinds.ps ℕ
 μ-unrank κs a = length (a .1 .1 .0 .now)
@@ -27,8 +26,6 @@ unrank-below t = and 1 unrank-kinds.ps (falls 1 unrank-kinds.ps _<_ μ-unrank t)
 unrank-returns : (t : ℕ) → unrank-lts.Need-returns (
   largest-top-reads.Asked,
   largest-top-reads.Learnt,
-  ways-reads.Asked,
-  ways-reads.Learnt,
   unrank-below t,
   unrank.Post,
 ) (unrank-at t) unrank.Post
@@ -37,8 +34,6 @@ unrank-returns t c = unrank-none (c .before .before .args .n) (c .before .before
 unrank-sub-end : (t : ℕ) → unrank-lts.Need-sub-end (
   largest-top-reads.Asked,
   largest-top-reads.Learnt,
-  ways-reads.Asked,
-  ways-reads.Learnt,
   unrank-below t,
   unrank.Post,
 ) (unrank-at t) unrank.Post
@@ -47,34 +42,14 @@ unrank-sub-end t c = omega arith
 unrank-largest-top-requires : (t : ℕ) → unrank-lts.Need-largest-top-requires (
   largest-top-reads.Asked,
   largest-top-reads.Learnt,
-  ways-reads.Asked,
-  ways-reads.Learnt,
   unrank-below t,
   unrank.Post,
 ) (unrank-at t) unrank.Post
-unrank-largest-top-requires t c κs =
-    let n = c .before .before .args .n in
-    let k = length (c .before .before .args .object .now) in
-    ((omega arith, (omega (arith, within-places n k (c .before .before .args .rank) (c .before .before .pre .1 .1 .1)), omega arith)), (omega arith, omega arith))
-
-unrank-ways-requires : (t : ℕ) → unrank-lts.Need-ways-requires (
-  largest-top-reads.Asked,
-  largest-top-reads.Learnt,
-  ways-reads.Asked,
-  ways-reads.Learnt,
-  unrank-below t,
-  unrank.Post,
-) (unrank-at t) unrank.Post
-unrank-ways-requires t c κs =
-    let n = c .before .before .before .args .n in
-    let k = length (c .before .before .before .args .object .now) in
-    (omega arith, (omega (arith, within-places n k (c .before .before .before .args .rank) (c .before .before .before .pre .1 .1 .1)), omega arith))
+unrank-largest-top-requires t c κs = omega arith
 
 unrank-sub-rest : (t : ℕ) → unrank-lts.Need-sub-rest (
   largest-top-reads.Asked,
   largest-top-reads.Learnt,
-  ways-reads.Asked,
-  ways-reads.Learnt,
   unrank-below t,
   unrank.Post,
 ) (unrank-at t) unrank.Post
@@ -83,8 +58,6 @@ unrank-sub-rest t c = omega arith
 unrank-add-object : (t : ℕ) → unrank-lts.Need-add-object (
   largest-top-reads.Asked,
   largest-top-reads.Learnt,
-  ways-reads.Asked,
-  ways-reads.Learnt,
   unrank-below t,
   unrank.Post,
 ) (unrank-at t) unrank.Post
@@ -93,8 +66,6 @@ unrank-add-object t c = omega arith
 unrank-cast-object : (t : ℕ) → unrank-lts.Need-cast-object (
   largest-top-reads.Asked,
   largest-top-reads.Learnt,
-  ways-reads.Asked,
-  ways-reads.Learnt,
   unrank-below t,
   unrank.Post,
 ) (unrank-at t) unrank.Post
@@ -103,8 +74,6 @@ unrank-cast-object t c = omega arith
 unrank-slice-write-object : (t : ℕ) → unrank-lts.Need-slice-write-object (
   largest-top-reads.Asked,
   largest-top-reads.Learnt,
-  ways-reads.Asked,
-  ways-reads.Learnt,
   unrank-below t,
   unrank.Post,
 ) (unrank-at t) unrank.Post
@@ -113,8 +82,6 @@ unrank-slice-write-object t c = omega arith
 unrank-slice-relend-prefix-unrank : (t : ℕ) → unrank-lts.Need-slice-relend-prefix-unrank (
   largest-top-reads.Asked,
   largest-top-reads.Learnt,
-  ways-reads.Asked,
-  ways-reads.Learnt,
   unrank-below t,
   unrank.Post,
 ) (unrank-at t) unrank.Post
@@ -123,8 +90,6 @@ unrank-slice-relend-prefix-unrank t c = simp length-set (omega arith)
 unrank-slice-aggregate-unrank : (t : ℕ) → unrank-lts.Need-slice-aggregate-unrank (
   largest-top-reads.Asked,
   largest-top-reads.Learnt,
-  ways-reads.Asked,
-  ways-reads.Learnt,
   unrank-below t,
   unrank.Post,
 ) (unrank-at t) unrank.Post
@@ -133,8 +98,6 @@ unrank-slice-aggregate-unrank t c = let h : length (c .before .before .before .b
 unrank-unrank-requires : (t : ℕ) → unrank-lts.Need-unrank-requires (
   largest-top-reads.Asked,
   largest-top-reads.Learnt,
-  ways-reads.Asked,
-  ways-reads.Learnt,
   unrank-below t,
   unrank.Post,
 ) (unrank-at t) unrank.Post
@@ -143,14 +106,12 @@ unrank-unrank-requires t c κs =
     let end = length x - 1 in
     let found = c .before .before .largest-top .ensures in
     let h : end < length x = omega arith in
-    let left = rest-below (c .before .before .before .before .before .args .n) (c .before .before .largest-top .result) (length x) end (c .before .before .before .before .before .args .rank) (omega arith) (found .0) (found .1 .0) (found .1 .1) in
-    rw (front-long, c .before .ways .ensures) (omega arith, (omega arith, (omega (arith, left .0), left .1)))
+    let left = rest-below (c .before .before .before .before .before .args .n) (c .before .before .largest-top .result .0) (length x) end (c .before .before .before .before .before .args .rank) (omega arith) (found .0) (found .1 .1 .0) (found .1 .1 .1) in
+    rw (front-long, found .1 .0) (omega arith, (omega arith, (omega (arith, left .0), left .1)))
 
 unrank-same-length : (t : ℕ) → unrank-lts.Need-same-length (
   largest-top-reads.Asked,
   largest-top-reads.Learnt,
-  ways-reads.Asked,
-  ways-reads.Learnt,
   unrank-below t,
   unrank.Post,
 ) (unrank-at t) unrank.Post
@@ -159,22 +120,18 @@ unrank-same-length t c = same-long (c .before .before .before .before .before .b
 unrank-returns-2 : (t : ℕ) → unrank-lts.Need-returns-2 (
   largest-top-reads.Asked,
   largest-top-reads.Learnt,
-  ways-reads.Asked,
-  ways-reads.Learnt,
   unrank-below t,
   unrank.Post,
 ) (unrank-at t) unrank.Post
 unrank-returns-2 t c =
     let x = c .before .before .before .before .before .before .before .before .args .object .now in
     let found = c .before .before .before .before .before .largest-top .ensures in
-    unranked (c .before .before .before .before .before .before .before .before .args .n) (c .before .before .before .before .before .largest-top .result) (length x - 1) (c .before .before .before .before .before .before .before .before .args .rank) x (omega arith) (found .0) (found .1 .0) (rw (c .before .before .before .before .ways .ensures) at (c .before .before .unrank .ensures))
+    unranked (c .before .before .before .before .before .before .before .before .args .n) (c .before .before .before .before .before .largest-top .result .0) (length x - 1) (c .before .before .before .before .before .before .before .before .args .rank) x (omega arith) (found .0) (found .1 .1 .0) (rw (found .1 .0) at (c .before .before .unrank .ensures))
 
 pub +unrank-spec : {M : Type 1} → statement M
 +unrank-spec = close μ-unrank λ t. unrank-lts.spec (
   largest-top-reads.Asked,
   largest-top-reads.Learnt,
-  ways-reads.Asked,
-  ways-reads.Learnt,
   unrank-below t,
   unrank.Post,
 )
@@ -183,7 +140,6 @@ pub +unrank-spec : {M : Type 1} → statement M
     (unrank-returns t)
     (unrank-sub-end t)
     (unrank-largest-top-requires t)
-    (unrank-ways-requires t)
     (unrank-sub-rest t)
     (unrank-add-object t)
     (unrank-cast-object t)

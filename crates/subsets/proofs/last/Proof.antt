@@ -6,7 +6,7 @@ use native.Mathlib.Numerals.{add-one}
 use native.Mathlib.Omega.{arith}
 use lib.ListN.{length}
 use borrow.Author.Needs.{needs}
-use Rattle.counting.specs.Sums.{range}
+use Rattle.numbers.specs.Sums.{range}
 use Rattle.subsets.proofs.Places.{highest-last}
 use Rattle.subsets.proofs.last.Statement.{statement}
 use Rattle.subsets.proofs.last.Tie as tie

@@ -7,7 +7,7 @@ use native.Mathlib.Numerals.{add-one}
 use native.Mathlib.Omega.{arith}
 use lib.ListN.{length, getD, drop}
 use borrow.Author.Needs.{needs}
-use Rattle.counting.specs.Sums.{range}
+use Rattle.numbers.specs.Sums.{range}
 use Rattle.listings.specs.Calls.{STEPPED, Said}
 use Rattle.listings.proofs.Stepping.{next-steps, next-ends}
 use Rattle.subsets.proofs.Theorem.{lists}

@@ -5,8 +5,8 @@ use Prim.Native.Nat.{_-_, _≤_}
 use native.Mathlib.Omega.{arith}
 use lib.ListN.{length, drop}
 use borrow.Author.Tests.{eq-eqb, ne-eqb}
-use Rattle.counting.specs.Sums.{total}
-use Rattle.counting.proofs.Totals.{total-drop, total-end}
+use Rattle.numbers.specs.Sums.{total}
+use Rattle.numbers.proofs.Totals.{total-drop, total-end}
 use Rattle.anagrams.proofs.letters.none_left.Statement.{statement}
 use Rattle.anagrams.proofs.letters.none_left.Tie as tie
 

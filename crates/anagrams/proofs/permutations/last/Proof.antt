@@ -4,7 +4,7 @@ use mathlib.Core.Path.{sym}
 use native.Mathlib.Omega.{arith}
 use lib.ListN.{length}
 use borrow.Author.Needs.{needs}
-use Rattle.counting.proofs.Laws.{total-ones}
+use Rattle.numbers.proofs.Laws.{total-ones}
 use Rattle.anagrams.proofs.Ones.{length-ones}
 use Rattle.anagrams.proofs.permutations.last.Statement.{statement}
 use Rattle.anagrams.proofs.permutations.last.Tie as tie

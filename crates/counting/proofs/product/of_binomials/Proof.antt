@@ -13,16 +13,16 @@ use lib.Dec.{leb}
 use types.Run.{OneOf}
 use denote.Enum.Declared.{tagOf}
 use borrow.Author.Needs.{needs}
-use Rattle.counting.specs.Limits.{places}
-use Rattle.counting.specs.Sums.{total}
-use Rattle.counting.specs.Numbers.{choose, multinomialOf}
+use Rattle.numbers.specs.Limits.{places}
+use Rattle.numbers.specs.Sums.{total}
+use Rattle.numbers.specs.Numbers.{choose, multinomialOf}
 use Rattle.counting.specs.declared.Count.{Count}
 use Rattle.counting.specs.declared.Count.the-variants.{Exactly, TooLarge}
 use Rattle.counting.specs.Answers.{fits, within}
 use Rattle.counting.proofs.Count.{the-type}
 use Rattle.counting.proofs.Answers.{answered, exactly, fits-small, fits-large, within-in, both-in}
-use Rattle.counting.proofs.Multinomials.{drop-le, head-le}
-use Rattle.counting.proofs.Totals.{total-drop-le}
+use Rattle.numbers.proofs.Multinomials.{drop-le, head-le}
+use Rattle.numbers.proofs.Totals.{total-drop-le}
 use Rattle.counting.proofs.product.of_binomials.Statement.{statement}
 use Rattle.counting.proofs.product.of_binomials.Tie as tie
 

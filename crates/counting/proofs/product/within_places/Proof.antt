@@ -5,8 +5,8 @@ use Prim.Native.Nat.{_+_, _≤_, _-_}
 use native.Mathlib.Omega.{arith}
 use lib.ListN.{length, drop}
 use borrow.Author.Tests.{le-leb, lt-leb}
-use Rattle.counting.specs.Sums.{total}
-use Rattle.counting.proofs.Totals.{total-drop, total-end}
+use Rattle.numbers.specs.Sums.{total}
+use Rattle.numbers.proofs.Totals.{total-drop, total-end}
 use Rattle.counting.proofs.product.within_places.Statement.{statement}
 use Rattle.counting.proofs.product.within_places.Tie as tie
 

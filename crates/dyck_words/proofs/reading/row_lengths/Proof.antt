@@ -3,7 +3,7 @@
 use mathlib.Core.Logic.{inl, inr}
 use Prim.Native.Nat.{_-_, _≤_}
 use native.Mathlib.Omega.{arith}
-use Rattle.counting.specs.Limits.{places}
+use Rattle.numbers.specs.Limits.{places}
 use Rattle.dyck_words.proofs.RowTable.{Filled, filled-none, filled-more, filled-all}
 use Rattle.dyck_words.proofs.reading.row_lengths.Statement.{statement}
 use Rattle.dyck_words.proofs.reading.row_lengths.Tie as tie

@@ -5,7 +5,7 @@ use mathlib.Core.List.{List, map}
 use Prim.Native.Nat.{ℕ, _-_, _≤_}
 use native.Mathlib.Omega.{arith}
 use lib.ListN.{length, set}
-use Rattle.counting.specs.Sums.{range}
+use Rattle.numbers.specs.Sums.{range}
 use Rattle.listings.proofs.Fills.{filled, fill-none, fill-more, length-filled, fill-all}
 use Rattle.dyck_words.proofs.Edges.{bit, alternates}
 use Rattle.dyck_words.proofs.stepping.write_first.Statement.{statement}

@@ -1,10 +1,10 @@
--- `families::counts::answer` meets its contract. A count below 2^64 is answered exactly, by the table for kind 1.
+-- `families::counts::answer` meets its contract. A count below 2^64 is answered exactly; kind 1 has an answer of its own.
 -- Assumes nothing.
 use mathlib.Core.Path.{_≡_, sym, _∙_, ap}
 use native.Mathlib.Omega.{arith}
 use borrow.Author.Needs.{needs}
 use Rattle.counting.specs.Answers.{fits}
-use Rattle.counting.proofs.Laws.{exactly}
+use Rattle.counting.proofs.Answers.{exactly}
 use Rattle.families.specs.Table.{lent, kindOf, bounds}
 use Rattle.families.specs.Listing.{countOf}
 use Rattle.families.specs.Numbers.{numberOf}
@@ -19,15 +19,15 @@ exact-requires c κs = search needs
 returns : tie.Need-returns
 returns c = search needs
 
-binomial-requires : tie.Need-binomial-requires
-binomial-requires c κs = search needs
+subset-count-requires : tie.Need-subset-count-requires
+subset-count-requires c κs = search needs
 
 -- the number of kind 1
-is-count : (c : tie.After-binomial) → c .binomial .result ≡ fits (countOf (c .before .before .before .args .f) (lent (c .before .before .before .args .counts .now)))
+is-count : (c : tie.After-subset-count) → c .subset-count .result ≡ fits (countOf (c .before .before .before .args .f) (lent (c .before .before .before .args .counts .now)))
 unfolding numberOf bounds kindOf
 is-count c =
     let a = of-kind _ _ (ap kindOf (c .before .if1 .left)) (c .before .before .before .pre .0) in
-    answer-within (c .binomial .ensures) (a .bounded) (a .counted)
+    answer-within (c .subset-count .ensures) (a .bounded) (a .counted)
 
 enum-known-v : tie.Need-enum-known-v
 enum-known-v c = search needs
@@ -40,4 +40,4 @@ returns-3 c = sym (exactly _ _ (sym (is-count (c .before .before .before)) ∙ c
 
 pub answer-spec : {M : Type 1} → statement M
 answer-spec =
-    tie.close (tie.spec exact-requires returns binomial-requires enum-known-v returns-2 returns-3)
+    tie.close (tie.spec exact-requires returns subset-count-requires enum-known-v returns-2 returns-3)

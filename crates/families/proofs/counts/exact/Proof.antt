@@ -3,7 +3,7 @@
 use mathlib.Core.Path.{sym, _∙_}
 use native.Mathlib.Omega.{arith}
 use borrow.Author.Needs.{needs}
-use Rattle.counting.proofs.Laws.{exactly}
+use Rattle.counting.proofs.Answers.{exactly}
 use Rattle.families.proofs.CountAnswers.{not-exact}
 use Rattle.families.proofs.counts.exact.Statement.{statement}
 use Rattle.families.proofs.counts.exact.Tie as tie

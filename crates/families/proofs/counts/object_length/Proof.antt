@@ -5,7 +5,7 @@ use Prim.Native.Nat.{_≤_}
 use native.Mathlib.Nat.{min-eq-left}
 use native.Mathlib.Omega.{arith}
 use borrow.Author.Tests.{leb-true}
-use Rattle.counting.specs.Sums.{total}
+use Rattle.numbers.specs.Sums.{total}
 use Rattle.listings.proofs.Bools.{and-true}
 use Rattle.families.specs.Table.{kindOf, bounds, objectLength, lengthOf}
 use Rattle.families.proofs.TableFacts.{no-kind}

@@ -5,8 +5,8 @@ use Prim.Native.Nat.{_+_, _≤_, _-_}
 use native.Mathlib.Nat.{min-eq-left, min-eq-right}
 use native.Mathlib.Omega.{arith}
 use lib.ListN.{length, drop}
-use Rattle.counting.specs.Sums.{total}
-use Rattle.counting.proofs.Totals.{total-drop, total-end}
+use Rattle.numbers.specs.Sums.{total}
+use Rattle.numbers.proofs.Totals.{total-drop, total-end}
 use Rattle.families.proofs.counts.sum_to_limit.Statement.{statement}
 use Rattle.families.proofs.counts.sum_to_limit.Tie as tie
 

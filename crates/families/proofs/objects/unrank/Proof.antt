@@ -3,7 +3,7 @@
 use mathlib.Core.Path.{_≡_, _∙_}
 use native.Mathlib.Omega.{arith}
 use borrow.Author.Needs.{needs}
-use Rattle.counting.specs.Numbers.{partitionsOf}
+use Rattle.numbers.specs.Numbers.{partitionsOf}
 use Rattle.families.specs.Table.{Kind, subset, anagram, permutation, setPartition, integerPartition, dyckWord, lent, lengthOf}
 use Rattle.families.specs.Listing.{listingOf}
 use Rattle.families.specs.Numbers.{numberOf}

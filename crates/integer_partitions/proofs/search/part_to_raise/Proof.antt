@@ -8,7 +8,7 @@ use native.Mathlib.Omega.{arith}
 use lib.ListN.{length, getD, take}
 use borrow.Author.Needs.{needs}
 use borrow.Author.Count.{below-more}
-use Rattle.counting.specs.Sums.{total}
+use Rattle.numbers.specs.Sums.{total}
 use Rattle.listings.specs.Bytes.{Bytes}
 use Rattle.integer_partitions.proofs.Parts.{total-empty, total-take-more, total-split}
 use Rattle.integer_partitions.proofs.search.part_to_raise.Statement.{statement}

@@ -7,7 +7,7 @@ use native.Mathlib.Omega.{arith}
 use lib.ListN.{length, take}
 use lib.Seq.{take-all}
 use borrow.Author.Needs.{needs}
-use Rattle.counting.specs.Sums.{total}
+use Rattle.numbers.specs.Sums.{total}
 use Rattle.integer_partitions.proofs.Parts.{total-empty, total-take-more, total-split}
 use Rattle.integer_partitions.proofs.search.sum.Statement.{statement}
 use Rattle.integer_partitions.proofs.search.sum.Tie as tie

@@ -6,8 +6,9 @@ use native.Mathlib.Omega.{arith}
 use lib.ListN.{take, drop, length-take}
 use borrow.Author.Needs.{needs}
 use Rattle.slip.specs.Grammar.{consField, slipWith, slipFrom}
-use Rattle.slip.specs.Reading.{valueAs, parsedAs}
-use Rattle.slip.proofs.FieldLaws.{rest-is, field-small}
+use Rattle.slip.specs.Reading.{parsedAs}
+use Rattle.columns.specs.Writing.{valueAs}
+use Rattle.columns.proofs.FieldLaws.{rest-is, field-small}
 use Rattle.slip.proofs.LineLaws.{at-most-malformed}
 use Rattle.slip.proofs.SlipLaws.{slip-short, slip-open, slip-is}
 use Rattle.slip.proofs.grammar.parse.Statement.{statement}

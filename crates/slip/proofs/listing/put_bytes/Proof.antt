@@ -7,10 +7,10 @@ use Prim.Native.Nat.{_+_, _*_, _-_, _≤_}
 use native.Mathlib.Omega.{arith}
 use lib.ListN.{length, take}
 use lib.Seq.{take-all}
-use Rattle.slip.specs.Columns.{column}
-use Rattle.slip.specs.Writing.{Wrote}
+use Rattle.columns.specs.Columns.{column}
+use Rattle.columns.specs.Writing.{Wrote}
 use Rattle.slip.proofs.Lines.{bytes-more}
-use Rattle.slip.proofs.Writes.{wrote-nothing, then}
+use Rattle.columns.proofs.Writes.{wrote-nothing, then}
 use Rattle.slip.proofs.listing.put_bytes.Statement.{statement}
 use Rattle.slip.proofs.listing.put_bytes.Tie as tie
 

@@ -1,6 +1,6 @@
 -- `slip::listing::put_end` meets its contract: a word and a newline.
 -- Assumes nothing.
-use Rattle.slip.proofs.Writes.{then}
+use Rattle.columns.proofs.Writes.{then}
 use Rattle.slip.specs.Writing.{lastLine}
 use borrow.Author.Needs.{needs}
 use Rattle.slip.proofs.listing.put_end.Statement.{statement}

@@ -2,7 +2,7 @@
 -- Assumes nothing.
 use native.Mathlib.Omega.{arith}
 use mathlib.Core.List.{append-assoc}
-use Rattle.slip.proofs.Writes.{then}
+use Rattle.columns.proofs.Writes.{then}
 use Rattle.slip.specs.Writing.{familyColumns}
 use borrow.Author.Needs.{needs}
 use Rattle.slip.proofs.listing.put_family.Statement.{statement}

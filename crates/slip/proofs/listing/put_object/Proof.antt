@@ -3,7 +3,7 @@
 use native.Mathlib.Omega.{arith}
 use mathlib.Core.List.{append-assoc}
 use Rattle.slip.specs.Text.{objectLine}
-use Rattle.slip.proofs.Writes.{then}
+use Rattle.columns.proofs.Writes.{then}
 use borrow.Author.Needs.{needs}
 use Rattle.slip.proofs.listing.put_object.Statement.{statement}
 use Rattle.slip.proofs.listing.put_object.Tie as tie

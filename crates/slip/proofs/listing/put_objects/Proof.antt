@@ -11,10 +11,10 @@ use Rattle.listings.proofs.PlaceRules.{at-below}
 use Rattle.families.specs.Table.{lent}
 use Rattle.families.specs.Listing.{listing}
 use Rattle.slip.specs.Text.{objectLines}
-use Rattle.slip.specs.Writing.{Wrote}
+use Rattle.columns.specs.Writing.{Wrote}
 use Rattle.slip.proofs.Lines.{line-written, ended, cut}
 use Rattle.slip.proofs.Listed.{not-moved, moves-on, stops}
-use Rattle.slip.proofs.Writes.{wrote-nothing}
+use Rattle.columns.proofs.Writes.{wrote-nothing}
 use Rattle.slip.proofs.listing.put_objects.Statement.{statement}
 use Rattle.slip.proofs.listing.put_objects.Tie as tie
 

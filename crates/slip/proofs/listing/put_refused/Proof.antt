@@ -1,7 +1,7 @@
 -- `slip::listing::put_refused` meets its contract: a word, a column and a newline.
 -- Assumes nothing.
 use mathlib.Core.List.{append-assoc}
-use Rattle.slip.proofs.Writes.{then}
+use Rattle.columns.proofs.Writes.{then}
 use Rattle.slip.specs.Text.{refusedText}
 use borrow.Author.Needs.{needs}
 use Rattle.slip.proofs.listing.put_refused.Statement.{statement}

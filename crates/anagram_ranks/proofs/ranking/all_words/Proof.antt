@@ -1,0 +1,32 @@
+-- `anagram_ranks::ranking::all_words` meets its contract: where the count fits, the answer is exact.
+-- Assumes nothing.
+use mathlib.Core.Logic.{⊎-elim}
+use mathlib.Core.Path.{_≡_, _∙_, sym}
+use native.Mathlib.Omega.{arith}
+use borrow.Author.Tests.{le-leb}
+use borrow.Author.Needs.{needs}
+use Rattle.numbers.specs.Numbers.{multinomialOf}
+use Rattle.numbers.specs.Limits.{places}
+use Rattle.counting.specs.Answers.{fits}
+use Rattle.counting.proofs.Answers.{fits-small, within-in, exactly}
+use Rattle.anagram_ranks.proofs.ranking.all_words.Statement.{statement}
+use Rattle.anagram_ranks.proofs.ranking.all_words.Tie as tie
+
+-- the arguments are within the limits
+answer : (c : tie.After-multinomial) → c .multinomial .result ≡ fits (multinomialOf (c .before .before .args .counts .now))
+answer c = c .multinomial .ensures ∙ within-in _ _ (le-leb _ places (c .before .before .pre .0))
+
+multinomial-requires : tie.Need-multinomial-requires
+multinomial-requires c κs = search needs
+
+enum-known-v : tie.Need-enum-known-v
+enum-known-v c = search needs
+
+returns : tie.Need-returns
+returns c = ⊎-elim (λ z. absurd (omega arith)) (λ z. absurd (omega arith)) (rw (answer (c .before) ∙ fits-small _ (c .before .before .before .pre .1)) at (c .match .keys2))
+
+returns-2 : tie.Need-returns-2
+returns-2 c = sym (exactly _ _ (sym (answer (c .before .before .before)) ∙ c .before .v .given .1))
+
+pub all-words-spec : {M : Type 1} → statement M
+all-words-spec = tie.close (tie.spec multinomial-requires enum-known-v returns returns-2)

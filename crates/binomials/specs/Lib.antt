@@ -1,0 +1,3 @@
+-- What the coefficients are made of: the factorials' odd parts and factors 2.
+pub mod Factorials
+pub mod Factors

@@ -1,0 +1,94 @@
+-- `columns::fields::digits` meets its contract: after i turns v is the number of the first i digits, and below 10 ^ i.
+-- Assumes nothing.
+use mathlib.Core.Path.{_≡_, sym, _∙_, ap}
+use Prim.Native.Nat.{ℕ, _+_, _-_, _^_, _≤_, _<_}
+use native.Mathlib.Omega.{arith}
+use native.Mathlib.Nat.{pow-le-pow-right}
+use native.Mathlib.Numerals.{add-one}
+use lib.ListN.{length, getD, drop, drop-of-length-le}
+use borrow.Author.Needs.{needs}
+use Rattle.columns.specs.Fields.{digits}
+use Rattle.columns.specs.Writing.{valueAs}
+use Rattle.columns.proofs.FieldLaws.{digit-read, digit-low, digit-high, digits-at, grown}
+use Rattle.columns.proofs.fields.digits.Statement.{statement}
+use Rattle.columns.proofs.fields.digits.Tie as tie
+
+abbrev Inv-loop : tie.InvT-loop
+Inv-loop part v₀ i₀ v i = (i ≤ length part) × ((v < 10 ^ i) × (digits v (drop i part) ≡ digits 0 part))
+
+abbrev μ-loop : tie.MeasureT-loop
+μ-loop part v₀ i₀ v i = length part - i
+
+-- the number so far has at most three digits where one more is read
+small : (i : ℕ) → i ≤ 3 → 10 ^ i ≤ 1000
+small i h = pow-le-pow-right {n = 10} (omega arith) h
+
+loop-holds : tie.Need-loop-holds Inv-loop μ-loop
+loop-holds c = search needs
+
+shared-slice-read-b : tie.Need-shared-slice-read-b Inv-loop μ-loop
+shared-slice-read-b c = search needs
+
+cast-b : tie.Need-cast-b Inv-loop μ-loop
+cast-b c = omega (arith, c .shared-slice-known .given (c .before .before .loop .i))
+
+returns : tie.Need-returns Inv-loop μ-loop
+unfolding valueAs
+returns c =
+    let x = c .before .before .before .before .args .part .now in
+    let l = c .before .before .before .loop in
+    sym (digits-at x (l .i) (l .v) (c .before .before .loop-test .taken) ∙ digit-low (l .v) (getD x (l .i) 0) (drop (l .i + 1) x) (c .if1 .taken)) ∙ l .inv .1 .1
+
+returns-2 : tie.Need-returns-2 Inv-loop μ-loop
+unfolding valueAs
+returns-2 c =
+    let x = c .before .before .before .before .before .args .part .now in
+    let l = c .before .before .before .before .loop in
+    sym (digits-at x (l .i) (l .v) (c .before .before .before .loop-test .taken) ∙ digit-high (l .v) (getD x (l .i) 0) (drop (l .i + 1) x) (c .if2 .taken)) ∙ l .inv .1 .1
+
+mul-v : tie.Need-mul-v Inv-loop μ-loop
+mul-v c = omega (arith, small (c .before .before .before .before .loop .i) (omega arith))
+
+add-v : tie.Need-add-v Inv-loop μ-loop
+add-v c = omega (arith, small (c .before .before .before .before .loop .i) (omega arith))
+
+add-i : tie.Need-add-i Inv-loop μ-loop
+add-i c = search needs
+
+loop-less : tie.Need-loop-less Inv-loop μ-loop
+loop-less c = search needs
+
+loop-again : tie.Need-loop-again Inv-loop μ-loop
+loop-again c =
+    let x = c .before .before .before .before .before .args .part .now in
+    let l = c .before .before .before .before .loop in (
+      omega arith,
+      (
+        rw add-one (grown (l .v) (getD x (l .i) 0) (l .i) (l .inv .1 .0) (c .if2 .left)),
+        sym (digits-at x (l .i) (l .v) (c .before .before .before .loop-test .taken) ∙ digit-read (l .v) (getD x (l .i) 0) (drop (l .i + 1) x) (c .before .if1 .left) (c .if2 .left)) ∙ l .inv .1 .1,
+      ),
+    )
+
+returns-3 : tie.Need-returns-3 Inv-loop μ-loop
+unfolding valueAs digits
+returns-3 c =
+    let x = c .before .before .args .part .now in
+    sym (ap (digits (c .before .loop .v)) (drop-of-length-le x (c .loop-test .left))) ∙ c .before .loop .inv .1 .1
+
+pub digits-spec : {M : Type 1} → statement M
+digits-spec =
+    tie.close
+    (tie.spec
+    Inv-loop
+    μ-loop
+    loop-holds
+    shared-slice-read-b
+    cast-b
+    returns
+    returns-2
+    mul-v
+    add-v
+    add-i
+    loop-less
+    loop-again
+    returns-3)

@@ -1,0 +1,52 @@
+// A field: blanks, then a number without leading zeros.
+ghost use mathlib.Core.Path.{_≡_};
+ghost use Prim.Native.Nat.{_≤_};
+ghost use lib.ListN.{length};
+ghost use Rattle.columns.specs.Fields.{digits as digitsOf, field as fieldOf};
+ghost use Rattle.columns.specs.Writing.{valueAs};
+
+pub enum Value {
+    Number(u64),
+    Bad,
+}
+
+// Digits to the end.
+fn digits(part: &[u8]) -> Value
+    requires { ⌜ length (now part) ≤ 4 ⌝ }
+    ensures { λ r. ⌜ valueAs r ≡ digitsOf 0 (now (part .entry)) ⌝ }
+{
+    let mut v: u64 = 0;
+    let mut i = 0;
+    while i < part.len() {
+        let b = part[i] as u64;
+        if b < 48 {
+            return Value::Bad;
+        }
+        if 57 < b {
+            return Value::Bad;
+        }
+        v = 10 * v + (b - 48);
+        i += 1;
+    }
+    Value::Number(v)
+}
+
+// A field of at most 4 columns.
+pub fn field(part: &[u8]) -> Value
+    requires { ⌜ length (now part) ≤ 4 ⌝ }
+    ensures { λ r. ⌜ valueAs r ≡ fieldOf (now (part .entry)) ⌝ }
+{
+    if part.len() == 0 {
+        return Value::Bad;
+    }
+    if part[0] == b' ' {
+        return field(&part[1..]);
+    }
+    if part[0] == b'0' {
+        if part.len() == 1 {
+            return Value::Number(0);
+        }
+        return Value::Bad;
+    }
+    digits(part)
+}

@@ -1,0 +1,27 @@
+-- `dyck_ranks::ranking::with_inside` meets its contract: the product is at most the Catalan number of n + 1.
+-- Assumes nothing.
+use native.Mathlib.Nat.{lt-of-le-of-lt}
+use native.Mathlib.Omega.{arith}
+use Rattle.numbers.proofs.Laws.{product-le, catalan-mono}
+use borrow.Author.Needs.{needs}
+use Rattle.dyck_ranks.proofs.ranking.with_inside.Statement.{statement}
+use Rattle.dyck_ranks.proofs.ranking.with_inside.Tie as tie
+
+ways-requires : tie.Need-ways-requires
+ways-requires c κs = let p = c .pre in (omega arith, lt-of-le-of-lt (catalan-mono (omega arith)) (p .2))
+
+sub-ways : tie.Need-sub-ways
+sub-ways c = search needs
+
+ways-requires-2 : tie.Need-ways-requires-2
+ways-requires-2 c κs = let p = c .before .pre in (omega arith, lt-of-le-of-lt (catalan-mono (omega arith)) (p .2))
+
+mul-result : tie.Need-mul-result
+mul-result c = let p = c .before .before .pre in
+    record { fits = rw (c .before .ways .ensures, c .ways2 .ensures) (lt-of-le-of-lt (product-le (c .before .before .args .n) (c .before .before .args .j) (p .0)) (p .2)) }
+
+returns : tie.Need-returns
+returns c = rw (c .before .ways .ensures, c .ways2 .ensures)
+
+pub with-inside-spec : {M : Type 1} → statement M
+with-inside-spec = tie.close (tie.spec ways-requires sub-ways ways-requires-2 mul-result returns)

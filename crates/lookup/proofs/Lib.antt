@@ -1,3 +1,0 @@
--- The laws of tables in pieces.
-pub mod Past
-pub mod Flat

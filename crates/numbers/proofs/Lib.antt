@@ -1,0 +1,16 @@
+-- The laws of the counts, of sums and of tables.
+pub mod Binomials
+pub mod Catalans
+pub mod Factorials
+pub mod Laws
+pub mod Multinomials
+pub mod PartitionLaws
+pub mod Past
+pub mod Ranges
+pub mod Stirlings
+pub mod Tables
+pub mod Totals
+pub mod TriangleIndex
+pub mod Triangles
+pub mod Weighted
+pub mod Widths

@@ -1,0 +1,2 @@
+-- The numbers that the counts of partitions are read from.
+pub mod Words

@@ -1,0 +1,69 @@
+// The number of partitions of n into exactly k parts, n up to 80. A number is named by e = n - k, what is left when each part has one, and its
+// column k. Only the even columns are stored, from e = k - 1 on: with more parts than e it makes no difference how many there are. A number of an odd
+// column is the difference of two of the next.
+ghost use mathlib.Core.Path.{_≡_};
+ghost use Prim.Native.Nat.{_+_, _*_, _%_, _≤_, _<_};
+ghost use Rattle.numbers.specs.Limits.{places};
+ghost use Rattle.numbers.specs.Numbers.{partitionsOf};
+
+mod words;
+
+use words::word;
+
+// The even column, at most e + 1, that has the number at e of the column j. It is 0 only where e is 0, which the last of the bounds says.
+fn narrowed(e: u64, j: u64) -> u64
+    requires { ⌜ (j % 2 ≡ 0) × ((0 < j) × (e + j ≤ 81)) ⌝ }
+    ensures { λ r. ⌜ (r % 2 ≡ 0) × ((r ≤ e + 1) × ((e + r ≤ 81) × (e ≤ 81 * r))) ⌝ }
+    ensures { λ r. ⌜ partitionsOf (e + r) r ≡ partitionsOf (e + j) j ⌝ }
+{
+    if e < j {
+        return e + e % 2;
+    }
+    j
+}
+
+// The number at e of an even column, at most e + 1. Column 2 is worked out; the others stand one after the other, and a word has the numbers of three places, 256
+// apart, in 21 bits each.
+fn stored(e: u64, j: u64) -> u64
+    requires { ⌜ (j % 2 ≡ 0) × ((j ≤ e + 1) × ((e + j ≤ 81) × (e ≤ 81 * j))) ⌝ }
+    ensures { λ r. ⌜ r ≡ partitionsOf (e + j) j ⌝ }
+{
+    if j < 4 {
+        return e / 2 + 1;
+    }
+    let at = j / 2 * (83 - j) + e - 161;
+    (word(at % 256) >> (21 * (at / 256))) % 2097152
+}
+
+// The number at e of an even column.
+fn column(e: u64, j: u64) -> u64
+    requires { ⌜ (j % 2 ≡ 0) × ((0 < j) × (e + j ≤ 81)) ⌝ }
+    ensures { λ r. ⌜ r ≡ partitionsOf (e + j) j ⌝ }
+{
+    stored(e, narrowed(e, j))
+}
+
+// The count of the partitions of n into exactly k parts.
+pub fn partitions(n: u64, k: u64) -> u64
+    requires { ⌜ n ≤ places ⌝ }
+    ensures { λ r. ⌜ r ≡ partitionsOf n k ⌝ }
+{
+    if n < k {
+        return 0;
+    }
+    let e = n - k;
+    if k % 2 == 1 {
+        let v = column(e, k + 1);
+        if e < k + 1 {
+            return v;
+        }
+        return v - column(e - (k + 1), k + 1);
+    }
+    if k == 0 {
+        if n == 0 {
+            return 1;
+        }
+        return 0;
+    }
+    column(e, k)
+}

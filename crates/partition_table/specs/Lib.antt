@@ -1,2 +1,0 @@
--- The numbers of the table.
-pub mod Table

@@ -1,0 +1,67 @@
+// Rows 68 to 80 of Pascal's triangle, worked out from row 67 by additions. Each sum on the way is part of the entry that is worked out.
+ghost use mathlib.Core.Path.{_≡_};
+ghost use Prim.Native.Nat.{ℕ, suc, _+_, _≤_, _<_, _^_};
+ghost use lib.ListN.{length, getD};
+ghost use Rattle.numbers.specs.Limits.{places};
+ghost use Rattle.numbers.specs.Numbers.{choose};
+ghost use Rattle.pascal.specs.Triangle.{lastRow, Triangle};
+ghost use Rattle.pascal.specs.Window.{back, Added};
+use crate::LAST_ROW;
+use crate::lent;
+
+// The entry of row 67 that lies i places before k, and 0 before the row's first.
+fn before_place(table: &[u64; 2346], k: u64, i: u64) -> u64
+    requires { ⌜ Triangle (now table) ⌝ }
+    ensures { λ r. ⌜ r ≡ back lastRow k i ⌝ }
+{
+    if k < i {
+        return 0;
+    }
+    let at = k - i;
+    if LAST_ROW < at {
+        return 0;
+    }
+    lent::entry(table, LAST_ROW, at)
+}
+
+// The part of row 67 that an entry k of the rows up to 80 is worked out from: the entries k, k - 1, .., k - 13.
+fn last_row(table: &[u64; 2346], k: u64) -> [u64; 14]
+    requires { ⌜ Triangle (now table) ⌝ }
+    ensures { λ r. ⌜ ((i : ℕ) → i < 14 → getD r i 0 ≡ back lastRow k i) ⌝ }
+{
+    let mut w = [0u64; 14];
+    let mut i: usize = 0;
+    while i < 14 {
+        w[i] = before_place(table, k, i as u64);
+        i += 1;
+    }
+    w
+}
+
+// Adds to each of the first m entries its right neighbour.
+fn add_neighbours(w: &mut [u64], m: usize)
+    requires { ⌜ m < length (now w) ⌝ }
+    requires { ⌜ ((i : ℕ) → i < m → getD (now w) i 0 + getD (now w) (suc i) 0 < 2 ^ 64) ⌝ }
+    ensures { λ _. ⌜ Added (now (w .entry)) m (now (w .exit)) ⌝ }
+{
+    let mut i = 0;
+    while i < m {
+        w[i] = w[i] + w[i + 1];
+        i += 1;
+    }
+}
+
+// The entry k of row n, a row up at each turn.
+pub fn climb(table: &[u64; 2346], n: u64, k: u64) -> u64
+    requires { ⌜ Triangle (now table) ⌝ }
+    requires { ⌜ (lastRow ≤ n) × ((n ≤ places) × (choose n k < 2 ^ 64)) ⌝ }
+    ensures { λ r. ⌜ r ≡ choose n k ⌝ }
+{
+    let mut w = last_row(table, k);
+    let mut left = (n - LAST_ROW) as usize;
+    while 0 < left {
+        add_neighbours(&mut w, left);
+        left -= 1;
+    }
+    w[0]
+}

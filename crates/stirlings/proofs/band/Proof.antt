@@ -1,0 +1,70 @@
+use mathlib.Core.Path.{_≡_, refl, subst}
+use Prim.Native.Nat.{ℕ, _+_, _*_, _-_, _≤_}
+use native.Mathlib.Omega.{arith}
+use native.Mathlib.Numerals.{add-one}
+use Rattle.stirlings.specs.Band.{Filled}
+use Rattle.stirlings.proofs.Laws.{all-fit}
+use Rattle.stirlings.proofs.Limits.{below}
+use Rattle.stirlings.proofs.Rows.{ones, room}
+use Rattle.stirlings.proofs.band.Statement.{statement}
+use Rattle.stirlings.proofs.band.Tie as tie
+use Rattle.stirlings.proofs.band.Reads as reads
+use Rattle.stirlings.proofs.band.Lts as lts
+use Rattle.stirlings.proofs.row.Reads as row-reads
+
+abbrev Inv-loop : tie.InvT-loop
+Inv-loop n k w rows t₀ d₀ t d = (1 ≤ d) × ((d ≤ rows) × Filled t w d)
+
+abbrev μ-loop : tie.MeasureT-loop
+μ-loop n k w rows t₀ d₀ t d = rows - d
+
+add-w : tie.Need-add-w Inv-loop μ-loop
+add-w c = omega arith
+
+sub-rows : tie.Need-sub-rows Inv-loop μ-loop
+sub-rows c = omega arith
+
+add-rows : tie.Need-add-rows Inv-loop μ-loop
+add-rows c = omega arith
+
+loop-holds : tie.Need-loop-holds Inv-loop μ-loop
+loop-holds c = (omega arith, (omega arith, ones 525 (c .args .k + 1) refl (omega arith)))
+
+row-requires : tie.Need-row-requires Inv-loop μ-loop
+row-requires c κs =
+    let a = c .before .before .before .args in
+    let l = c .before .before .loop in
+    let all : (a .n - a .k + 1) * (a .k + 1) ≤ 525 = below (a .n) (a .k) (omega arith) (omega arith) .room (omega arith) in
+    ((omega arith, (omega arith, room (l .d) (a .n - a .k + 1) (a .k + 1) 525 (omega arith) all)), (λ j h. all-fit (a .n) (a .k) (l .d) j (omega arith) (omega arith) (omega arith) (omega arith) (omega arith), l .inv .1 .1))
+
+add-d : tie.Need-add-d Inv-loop μ-loop
+add-d c = omega arith
+
+loop-less : tie.Need-loop-less Inv-loop μ-loop
+loop-less c = omega arith
+
+loop-again : tie.Need-loop-again Inv-loop μ-loop
+loop-again c = (omega arith, (omega arith, rw (add-one (c .before .before .before .loop .d)) (c .row .ensures)))
+
+returns : tie.Need-returns Inv-loop μ-loop
+returns c =
+    let a = c .before .before .args in
+    let l = c .before .loop in
+    let through : l .d ≡ a .n - a .k + 1 = omega arith in
+    subst (Filled (l .t) (a .k + 1)) through (l .inv .1 .1)
+
+pub band-spec : {M : Type 1} → statement M
+band-spec =
+    tie.close
+    (tie.spec
+    Inv-loop
+    μ-loop
+    add-w
+    sub-rows
+    add-rows
+    loop-holds
+    row-requires
+    add-d
+    loop-less
+    loop-again
+    returns)

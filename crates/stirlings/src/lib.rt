@@ -1,0 +1,107 @@
+// Stirling numbers of the second kind, below 2^64: a band of their triangle, worked out once a call and lent, has every number that the ranks of
+// one family read.
+ghost use mathlib.Core.Path.{_≡_};
+ghost use Prim.Native.Nat.{ℕ, suc, _+_, _-_, _*_, _≤_, _<_, _^_};
+ghost use lib.Dec.{ltb};
+ghost use Rattle.numbers.specs.Limits.{places};
+ghost use Rattle.numbers.specs.Numbers.{stirlingOf};
+ghost use Rattle.stirlings.specs.Band.{Filled, LastColumn};
+
+// As many numbers as the largest band has: (80 - 74 + 1) * (74 + 1).
+pub const NUMBERS: usize = 525;
+
+// Of the numbers S(k + d, k) with k + d up to 80, those for k up to which are below 2^64?
+fn last_column(d: u64) -> u64
+    ensures { λ r. ⌜ LastColumn d r ⌝ }
+{
+    match d {
+        0..=6 => 80,
+        7 => 59,
+        8 => 41,
+        9 => 30,
+        10 => 24,
+        11 => 19,
+        12 => 16,
+        13 => 14,
+        14 => 12,
+        15 => 11,
+        16 => 10,
+        17 => 9,
+        18 => 8,
+        19..=20 => 7,
+        21..=22 => 6,
+        23..=25 => 5,
+        26..=30 => 4,
+        31..=39 => 3,
+        40..=63 => 2,
+        _ => 1,
+    }
+}
+
+// Is the number of partitions of n models into k blocks below 2^64?
+pub fn stirling_fits(n: u64, k: u64) -> bool
+    requires { ⌜ n ≤ places ⌝ }
+    ensures { λ r. ⌜ r ≡ ltb (stirlingOf n k) (2 ^ 64) ⌝ }
+{
+    if n < k {
+        return true;
+    }
+    k <= last_column(n - k)
+}
+
+// Row d out of row d - 1: what stands on the left, and j times what stands above.
+fn row(t: &mut [u64; NUMBERS], w: usize, d: usize)
+    requires { ⌜ (0 < w) × ((0 < d) × (d * w + w ≤ 525)) ⌝ }
+    requires { ⌜ ((j : ℕ) → j < w → stirlingOf (j + d) j < 2 ^ 64) ⌝ }
+    requires { ⌜ Filled (now t) w d ⌝ }
+    ensures { λ _. ⌜ Filled (now (t .exit)) w (suc d) ⌝ }
+{
+    let at = d * w;
+    let above = at - w;
+    t[at] = 0;
+    let mut left: u64 = 0;
+    let mut j: usize = 1;
+    while j < w {
+        left += (j as u64) * t[above + j];
+        t[at + j] = left;
+        j += 1;
+    }
+}
+
+// Every number that a rank among the partitions of n models into k blocks reads: S(j + d, j), for d up to n - k and j up to k, at d * (k + 1) + j.
+// Row 0 is all ones: as many blocks as models.
+pub fn band(n: u64, k: u64) -> [u64; NUMBERS]
+    requires { ⌜ (n ≤ places) × ((k ≤ n) × (stirlingOf n k < 2 ^ 64)) ⌝ }
+    ensures { λ r. ⌜ Filled r (k + 1) (n - k + 1) ⌝ }
+{
+    let w = k as usize + 1;
+    let rows = (n - k) as usize + 1;
+    let mut t = [1u64; NUMBERS];
+    let mut d: usize = 1;
+    while d < rows {
+        row(&mut t, w, d);
+        d += 1;
+    }
+    t
+}
+
+// The number of partitions of m models into j blocks, out of a band with rows of w numbers.
+pub fn read(t: &[u64; NUMBERS], w: usize, m: usize, j: usize) -> u64
+    requires { ⌜ (j ≤ m) × (j < w) ⌝ }
+    requires { ⌜ Filled (now t) w (m - j + 1) ⌝ }
+    ensures { λ r. ⌜ r ≡ stirlingOf m j ⌝ }
+{
+    t[(m - j) * w + j]
+}
+
+// The number of partitions of n models into k blocks.
+pub fn stirling(n: u64, k: u64) -> u64
+    requires { ⌜ (n ≤ places) × (stirlingOf n k < 2 ^ 64) ⌝ }
+    ensures { λ r. ⌜ r ≡ stirlingOf n k ⌝ }
+{
+    if n < k {
+        return 0;
+    }
+    let t = band(n, k);
+    read(&t, k as usize + 1, n as usize, k as usize)
+}
