@@ -1,4 +1,4 @@
--- What the private functions on words say to each other. No public contract cites this file.
+-- What the readers of a word say to each other, to the steps and to the ranks. No contract of a call on a kind cites this file.
 -- Assumes nothing.
 use mathlib.Core.Path.{_≡_}
 use mathlib.Core.Bool.{false}

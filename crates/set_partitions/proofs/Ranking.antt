@@ -9,7 +9,7 @@ use native.Mathlib.Numerals.{add-one}
 use native.Mathlib.Decide.{decLt}
 use native.Mathlib.Omega.{arith}
 use lib.ListN.{length, take, drop, set, getD, drop-of-length-le}
-use lib.Seq.{length-take-le, split-at, getD-at}
+use lib.Seq.{split-at, getD-at, getD-take, take-take}
 use Rattle.numbers.specs.Numbers.{stirlingOf}
 use Rattle.numbers.proofs.Laws.{stirling-rule, stirling-none, stirling-zero, stirling-grows, stirling-grows-both}
 use Rattle.listings.specs.Bytes.{Bytes}
@@ -20,7 +20,7 @@ use Rattle.listings.proofs.Ranks.{place-is-rank}
 use Rattle.listings.proofs.Stepping.{at-rank}
 use Rattle.set_partitions.specs.Objects.{isSetPartition, keys, setPartitionBefore}
 use Rattle.set_partitions.specs.Listing.{setPartitions}
-use Rattle.set_partitions.proofs.Facts.{length-keys, keys-long, partition-ends, othersIn, blockOf, keys-put-on, Taken, take-off}
+use Rattle.set_partitions.proofs.Facts.{keys-long, partition-cases, partition-ends, othersIn, blockOf, keys-put-on, Taken, take-off}
 use Rattle.set_partitions.proofs.Theorem.{counted, lists, some-partition}
 use Rattle.set_partitions.proofs.KeySteps.{at-alone, at-joined}
 use Rattle.set_partitions.proofs.Parts.{rest-kept}
@@ -45,6 +45,7 @@ pub record Joined (n m k b : ℕ) (front x : Bytes) : Type 0 where
   pub some : 1 ≤ k
   pub few : k ≤ n
   pub from : 1 ≤ b
+  pub upto : b ≤ k
   pub others : isSetPartition n k front ≡ true
   pub fewer : stirlingOf n k ≤ stirlingOf m k
   pub rank : rankOf m k x ≡ stirlingOf n (k - 1) + (b - 1) * stirlingOf n k + rankOf n k front
@@ -72,6 +73,7 @@ joined n k b x h o =
       some = omega arith;
       few = few-blocks n (suc k) x o;
       from = omega arith;
+      upto = omega arith;
       others = o;
       fewer = stirling-grows n k;
       rank = rw (back, back′) same;
@@ -102,50 +104,47 @@ is-joined n (suc k) b c x o u some = let t = take-off n k b x o in step (t .key)
     step zero q h e f = absurd (some (sym q))
     step (suc d) q h e f = rw (e, ← q) (joined n k d x (omega arith) f)
 
--- the same of a list and all but its last entry
+-- the same of n models and all but the last of them, the key of which is read
 
-pub others-long : (x : Bytes) → length (take (length x - 1) x) ≡ length x - 1
-others-long x = length-take-le (length x - 1) x (omega arith)
+module _ (n k : ℕ) (x ks : Bytes) (some : n ≡ 0 → ⊥) (o : isSetPartition n k x ≡ true) (same : take n ks ≡ keys 0 x) where
+  models : length x ≡ n
+  models = partition-cases n k x o .0
 
-module _ (x ks : Bytes) (same : ks ≡ keys 0 x) where
-  pub as-many-keys : length ks ≡ length x
-  as-many-keys = ap length same ∙ length-keys 0 x
+  pub keys-of-others : take (n - 1) ks ≡ keys 0 (take (n - 1) x)
+  keys-of-others = sym (take-take (n - 1) n ks (omega arith)) ∙ ap (take (n - 1)) same ∙ keys-take 0 (n - 1) x
 
-  pub keys-of-others : take (length x - 1) ks ≡ keys 0 (take (length x - 1) x)
-  keys-of-others = ap (take (length x - 1)) same ∙ keys-take 0 (length x - 1) x
-
-  pub keys-of-others-long : length (take (length x - 1) ks) ≡ length x - 1
-  keys-of-others-long = length-take-le (length x - 1) ks (omega (arith, as-many-keys))
-
-module _ (k : ℕ) (x ks : Bytes) (some : length x ≡ 0 → ⊥) (o : isSetPartition (length x) k x ≡ true) (same : ks ≡ keys 0 x) where
-  one-more : suc (length x - 1) ≡ length x
+  one-more : suc (n - 1) ≡ n
   one-more = omega arith
 
-  in-two : take (length x - 1) x ++ (getD x (length x - 1) 0 ∷ []) ≡ x
+  in-two : take (n - 1) x ++ (getD x (n - 1) 0 ∷ []) ≡ x
   in-two =
-      let none : drop (suc (length x - 1)) x ≡ [] = drop-of-length-le x {i = suc (length x - 1)} (omega arith) in
-      ap (λ z. take (length x - 1) x ++ (getD x (length x - 1) 0 ∷ z)) (sym none) ∙ sym (split-at x (length x - 1) 0 (omega arith))
+      let none : drop (suc (n - 1)) x ≡ [] = drop-of-length-le x {i = suc (n - 1)} (omega (arith, models)) in
+      ap (λ z. take (n - 1) x ++ (getD x (n - 1) 0 ∷ z)) (sym none) ∙ sym (split-at x (n - 1) 0 (omega (arith, models)))
 
-  parted : isSetPartition (suc (length x - 1)) k (take (length x - 1) x ++ (getD x (length x - 1) 0 ∷ [])) ≡ true
-  parted = subst₂ (λ n z. isSetPartition n k z ≡ true) (sym one-more) (sym in-two) o
+  parted : isSetPartition (suc (n - 1)) k (take (n - 1) x ++ (getD x (n - 1) 0 ∷ [])) ≡ true
+  parted = subst₂ (λ m z. isSetPartition m k z ≡ true) (sym one-more) (sym in-two) o
 
-  key-there : getD (keys 0 (take (length x - 1) x ++ (getD x (length x - 1) 0 ∷ []))) (length x - 1) 0 ≡ getD ks (length x - 1) 0
-  key-there = ap (λ z. getD (keys 0 z) (length x - 1) 0) in-two ∙ ap (λ z. getD z (length x - 1) 0) (sym same)
+  key-there : getD (keys 0 (take (n - 1) x ++ (getD x (n - 1) 0 ∷ []))) (n - 1) 0 ≡ getD ks (n - 1) 0
+  key-there = ap (λ z. getD (keys 0 z) (n - 1) 0) in-two ∙ ap (λ z. getD z (n - 1) 0) (sym same) ∙ getD-take n ks (n - 1) 0 (omega arith)
 
-  pub ends-alone : getD ks (length x - 1) 0 ≡ 0 → Alone (length x - 1) (length x) k (take (length x - 1) x) x
+  pub ends-alone : getD ks (n - 1) 0 ≡ 0 → Alone (n - 1) n k (take (n - 1) x) x
   ends-alone u =
-      subst₂ (λ m z. Alone (length x - 1) m k (take (length x - 1) x) z) one-more in-two (is-alone (length x - 1) k (getD x (length x - 1) 0) (take (length x - 1) x) parted (key-there ∙ u))
+      subst₂ (λ m z. Alone (n - 1) m k (take (n - 1) x) z) one-more in-two (is-alone (n - 1) k (getD x (n - 1) 0) (take (n - 1) x) parted (key-there ∙ u))
 
-  pub ends-joined : (getD ks (length x - 1) 0 ≡ 0 → ⊥) → Joined (length x - 1) (length x) k (getD ks (length x - 1) 0) (take (length x - 1) x) x
+  pub ends-joined : (getD ks (n - 1) 0 ≡ 0 → ⊥) → Joined (n - 1) n k (getD ks (n - 1) 0) (take (n - 1) x) x
   ends-joined u =
-      subst₂ (λ m z. Joined (length x - 1) m k (getD ks (length x - 1) 0) (take (length x - 1) x) z) one-more in-two (is-joined (length x - 1) k (getD x (length x - 1) 0) (getD ks (length x - 1) 0) (take (length x - 1) x) parted key-there u)
+      subst₂ (λ m z. Joined (n - 1) m k (getD ks (n - 1) 0) (take (n - 1) x) z) one-more in-two (is-joined (n - 1) k (getD x (n - 1) 0) (getD ks (n - 1) 0) (take (n - 1) x) parted key-there u)
 
 -- no model
-pub none-before : (k : ℕ) (x : Bytes) → length x ≡ 0 → 0 ≡ rankOf (length x) k x
+pub none-before : (n k : ℕ) (x : Bytes) → n ≡ 0 → isSetPartition n k x ≡ true → 0 ≡ rankOf n k x
 unfolding countBefore setPartitions setPartitionBefore keys lastDiffers
-none-before zero [] e = refl
-none-before (suc k) [] e = refl
-none-before k (b ∷ x) e = absurd (omega arith)
+none-before n k x e o = step n k x (partition-cases n k x o .0) e
+  where
+    step : (n k : ℕ) (x : Bytes) → length x ≡ n → n ≡ 0 → 0 ≡ rankOf n k x
+    step zero zero [] l e = refl
+    step zero (suc k) [] l e = refl
+    step zero k (b ∷ x) l e = absurd (omega arith)
+    step (suc n) k x l e = absurd (omega arith)
 
 -- the partition of a rank: the last model alone while the rank is below the number of those, and then by block
 

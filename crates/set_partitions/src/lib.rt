@@ -3,14 +3,15 @@
 ghost use mathlib.Core.Path.{_≡_};
 ghost use mathlib.Core.Bool.{true};
 ghost use Prim.Native.Nat.{_≤_, _<_, _^_};
-ghost use lib.ListN.{length};
+ghost use lib.ListN.{length, take};
 ghost use Rattle.numbers.specs.Limits.{places};
 ghost use Rattle.numbers.specs.Numbers.{stirlingOf};
 ghost use Rattle.stirlings.specs.Band.{Reaches};
+ghost use Rattle.listings.specs.Bytes.{Bytes};
 ghost use Rattle.listings.specs.Calls.{NEXT, PREVIOUS, Said, act};
 ghost use Rattle.listings.specs.Places.{At, First, Last, countBefore};
 ghost use Rattle.listings.specs.Steps.{stepAs};
-ghost use Rattle.set_partitions.specs.Objects.{isSetPartition, keys as keysIn, setPartitionBefore};
+ghost use Rattle.set_partitions.specs.Objects.{isSetPartition, keys as keysIn, KeysOf, setPartitionBefore};
 ghost use Rattle.set_partitions.specs.Listing.{setPartitions};
 
 mod search;
@@ -21,8 +22,8 @@ use listings::fill_with;
 use search::block_to_lower;
 use search::block_to_raise;
 use search::keys_of;
-use stirlings::NUMBERS;
-use stirlings::band;
+use stirlings::CAPACITY;
+use stirlings::fill;
 
 // Does the slice hold a partition of n models into k blocks?
 pub fn is_object(n: u64, k: u64, object: &[u8]) -> bool
@@ -115,26 +116,24 @@ pub fn previous(k: u64, object: &mut [u8]) -> Step
     Step::Stepped
 }
 
-// Through the rank of the partition left when the last model is taken out, whose key is read. The band has the number of all partitions at `at`:
-// that of those with the last model alone one place before, and with it in a given block a row before.
-fn rank_of(k: u64, object: &[u8], keys: &[u8], band: &[u64; NUMBERS], w: usize, at: usize) -> u64
-    requires { ⌜ isSetPartition (length (now object)) k (now object) ≡ true ⌝ }
-    requires { ⌜ stirlingOf (length (now object)) k < 2 ^ 64 ⌝ }
-    requires { ⌜ now keys ≡ keysIn 0 (now object) ⌝ }
-    requires { ⌜ Reaches (now band) w at (length (now object)) k ⌝ }
-    ensures { λ r. ⌜ r ≡ countBefore setPartitionBefore (now (object .entry)) (setPartitions (length (now (object .entry))) k) ⌝ }
+// By the keys of n models: through the rank of the partition left when the last of them is taken out. The band has the number of all partitions
+// at `at`: that of those with the last model alone one place before, and with it in a given block a row before.
+fn rank_of(n: usize, k: u64, keys: &[u8; 80], band: &[u64; CAPACITY], w: usize, at: usize) -> u64
+    requires { ⌜ (n ≤ places) × (stirlingOf n k < 2 ^ 64) ⌝ }
+    requires { ⌜ KeysOf n k (take n (now keys)) ⌝ }
+    requires { ⌜ Reaches (now band) w at n k ⌝ }
+    ensures { λ r. ⌜ ((x : Bytes) → isSetPartition n k x ≡ true → take n (now (keys .entry)) ≡ keysIn 0 x → r ≡ countBefore setPartitionBefore x (setPartitions n k)) ⌝ }
 {
-    let n = object.len();
     if n == 0 {
         return 0;
     }
     let end = n - 1;
     let key = keys[end];
     if key == 0 {
-        return rank_of(k - 1, &object[..end], &keys[..end], band, w, at - 1);
+        return rank_of(end, k - 1, keys, band, w, at - 1);
     }
     let earlier = band[at - 1] + (key as u64 - 1) * band[at - w];
-    earlier + rank_of(k, &object[..end], &keys[..end], band, w, at - w)
+    earlier + rank_of(end, k, keys, band, w, at - w)
 }
 
 // How many partitions come before it, by its keys.
@@ -146,20 +145,21 @@ pub fn rank(k: u64, object: &[u8]) -> u64
 {
     let keys = keys_of(object);
     let n = object.len();
-    let numbers = band(n as u64, k);
+    let mut numbers = [1u64; CAPACITY];
+    fill(n as u64, k, &mut numbers);
     let w = k as usize + 1;
-    rank_of(
-        k,
-        object,
-        &keys[..n],
-        &numbers,
-        w,
-        (n - k as usize) * w + k as usize,
-    )
+    rank_of(n, k, &keys, &numbers, w, (n - k as usize) * w + k as usize)
 }
 
 // The object of a rank: the key of the last model, and the partition of the others. The band is as for `rank_of`.
-fn write_partition(k: u64, rank: u64, object: &mut [u8], band: &[u64; NUMBERS], w: usize, at: usize)
+fn write_partition(
+    k: u64,
+    rank: u64,
+    object: &mut [u8],
+    band: &[u64; CAPACITY],
+    w: usize,
+    at: usize,
+)
     requires { ⌜ length (now object) ≤ places ⌝ }
     requires { ⌜ rank < stirlingOf (length (now object)) k ⌝ }
     requires { ⌜ Reaches (now band) w at (length (now object)) k ⌝ }
@@ -190,7 +190,8 @@ pub fn unrank(k: u64, rank: u64, object: &mut [u8])
     ensures { λ _. ⌜ At (setPartitions (length (now (object .entry))) k) (now (object .exit)) rank ⌝ }
 {
     let n = object.len();
-    let numbers = band(n as u64, k);
+    let mut numbers = [1u64; CAPACITY];
+    fill(n as u64, k, &mut numbers);
     let w = k as usize + 1;
     write_partition(
         k,

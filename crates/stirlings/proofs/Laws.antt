@@ -1,11 +1,11 @@
--- The rule of the band: row 0 is all ones, and a number of a later row is the one on its left plus so many times the one above; and that the
--- last number of the last row is the largest but for the first of all. Assumes nothing.
-use mathlib.Core.Path.{_≡_, refl, sym, _∙_, ap}
+-- The rule of the band: row 0 is all ones, and a number of a later row is the one on its left plus so many times the one above; and the
+-- last number of the last row bounds the others of the later rows. Assumes nothing.
+use mathlib.Core.Path.{_≡_, sym, _∙_, ap}
 use Prim.Native.Nat.{ℕ, zero, suc, _+_, _-_, _*_, _≤_, _<_, _^_}
-use native.Mathlib.Nat.{add-zero, zero-add, mul-zero, zero-mul}
+use native.Mathlib.Nat.{add-zero, zero-mul}
 use native.Mathlib.Omega.{arith}
 use Rattle.numbers.specs.Numbers.{stirlingOf}
-use Rattle.numbers.proofs.Stirlings.{stirling-rule, stirling-corner, stirling-zero, stirling-all, stirling-grows, stirling-grows-both}
+use Rattle.numbers.proofs.Stirlings.{stirling-rule, stirling-zero, stirling-all, stirling-grows, stirling-grows-both}
 
 -- the number j of row d: j + d models in j blocks
 abbrev pub band : ℕ → ℕ → ℕ
@@ -14,7 +14,7 @@ band d j = stirlingOf (j + d) j
 pub first-row : (j : ℕ) → band 0 j ≡ 1
 first-row j = ap (λ (i : ℕ). stirlingOf i j) (add-zero j) ∙ stirling-all j
 
-pub first-column : (d : ℕ) → 0 < d → 0 ≡ band d 0
+first-column : (d : ℕ) → 0 < d → 0 ≡ band d 0
 first-column d h = sym (stirling-zero (0 + d) (omega arith))
 
 -- the number on the left of number j of a row
@@ -22,10 +22,10 @@ unfoldable pub left-of : ℕ → ℕ → ℕ
 left-of d zero = 0
 left-of d (suc j) = band d j
 
-pub rule : (e j : ℕ) → 0 < j → left-of (suc e) j + j * band e j ≡ band (suc e) j
+pub rule : (e j : ℕ) → left-of (suc e) j + j * band e j ≡ band (suc e) j
 unfolding left-of
-rule e zero h = absurd (omega arith)
-rule e (suc j) h =
+rule e zero = omega (arith, zero-mul (band e 0), first-column (suc e) (omega arith))
+rule e (suc j) =
     let a : suc j + e ≡ j + suc e = omega arith in
     let b : suc (j + suc e) ≡ suc j + suc e = omega arith in
     ap (λ (i : ℕ). stirlingOf (j + suc e) j + suc j * stirlingOf i (suc j)) a ∙ sym (stirling-rule (j + suc e) j) ∙ ap (λ (i : ℕ). stirlingOf i (suc j)) b
@@ -45,15 +45,10 @@ down d (suc i) j =
     let e : suc (suc j + (d + i)) ≡ suc j + (d + suc i) = omega arith in
     omega (arith, down d i j, stirling-grows (suc j + (d + i)) j, ap (λ (m : ℕ). stirlingOf m (suc j)) e)
 
--- n models in k blocks bound the band up to there
-
-pub at-most : (n k d j : ℕ) → 0 < j → j ≤ k → k ≤ n → d ≤ n - k → band d j ≤ stirlingOf n k
-at-most n k d zero pos a b c = absurd (omega arith)
-at-most n k d (suc j) pos a b c =
+-- where the number of n models in k blocks is below 2^64, so is the band up to there
+pub all-fit : (n k d j : ℕ) → stirlingOf n k < 2 ^ 64 → k ≤ n → d ≤ n - k → j ≤ k → 0 < d → band d j < 2 ^ 64
+all-fit n k d zero h a b c pos = omega (arith, first-column d pos)
+all-fit n k d (suc j) h a b c pos =
     let e : suc j + (k - suc j) ≡ k = omega arith in
     let f : k + (d + (n - k - d)) ≡ n = omega arith in
     omega (arith, down d (n - k - d) j, along (d + (n - k - d)) (suc j) (k - suc j), ap (band (d + (n - k - d))) e, ap (λ (m : ℕ). stirlingOf m k) f)
-
-pub all-fit : (n k d j : ℕ) → stirlingOf n k < 2 ^ 64 → k ≤ n → d ≤ n - k → j ≤ k → 0 < d → band d j < 2 ^ 64
-all-fit n k d zero h a b c pos = omega (arith, first-column d pos)
-all-fit n k d (suc j) h a b c pos = omega (arith, at-most n k d (suc j) (omega arith) c a b)

@@ -1,4 +1,4 @@
--- The laws of the band, what a loop over one row keeps, the test of the limits, and a walk through the band.
+-- The laws of the band, what a loop over one row keeps, the limits and their test, and what the callers need.
 pub mod Laws
 pub mod Limits
 pub mod Rows

@@ -1,6 +1,6 @@
--- Where on each row of the band the numbers reach 2^64, and that a band whose last number is below has at most 525: tested once over the
+-- Where on each row of the band the numbers reach 2^64, and that a band whose last number is below has at most 525 numbers: tested once over the
 -- triangle to row 80. Assumes nothing.
-use mathlib.Core.Path.{_≡_, refl, sym, _∙_, ap, subst}
+use mathlib.Core.Path.{_≡_, refl, sym, _∙_, ap}
 use mathlib.Core.Logic.{_⊎_, inl, inr}
 use mathlib.Core.Bool.{Bool, true, false, _&&_, not, and-eq-true-iff, false≢true}
 use mathlib.Core.List.{List, [], _∷_}
@@ -15,7 +15,7 @@ use Rattle.numbers.specs.Sums.{range}
 use Rattle.numbers.proofs.Stirlings.{stirling-weighted}
 use Rattle.numbers.proofs.Triangles.{row}
 use Rattle.numbers.proofs.Weighted.{step}
-use Rattle.stirlings.specs.Band.{LastColumn}
+use Rattle.stirlings.specs.Band.{capacity, LastColumn}
 use Rattle.stirlings.proofs.Tested.{holds, tests, every}
 
 -- row by row, the last column whose number is below 2^64
@@ -24,14 +24,14 @@ limits =
     80 ∷ 80 ∷ 80 ∷ 80 ∷ 80 ∷ 80 ∷ 80 ∷ 59 ∷ 41 ∷ 30 ∷ 24 ∷ 19 ∷ 16 ∷ 14 ∷ 12 ∷ 11 ∷ 10 ∷ 9 ∷ 8 ∷ 7 ∷ 7 ∷ 6 ∷ 6 ∷ 5 ∷ 5 ∷ 5 ∷ 4 ∷ 4 ∷ 4 ∷ 4 ∷ 4 ∷ 3 ∷ 3 ∷ 3 ∷ 3 ∷ 3 ∷ 3 ∷ 3 ∷ 3 ∷
     3 ∷ 2 ∷ 2 ∷ 2 ∷ 2 ∷ 2 ∷ 2 ∷ 2 ∷ 2 ∷ 2 ∷ 2 ∷ 2 ∷ 2 ∷ 2 ∷ 2 ∷ 2 ∷ 2 ∷ 2 ∷ 2 ∷ 2 ∷ 2 ∷ 2 ∷ 2 ∷ 2 ∷ 2 ∷ 1 ∷ 1 ∷ 1 ∷ 1 ∷ 1 ∷ 1 ∷ 1 ∷ 1 ∷ 1 ∷ 1 ∷ 1 ∷ 1 ∷ 1 ∷ 1 ∷ 1 ∷ 1 ∷ 1 ∷ []
 
--- below 2^64 up to the limit, and then the band to there has at most 525 numbers; not below it past the limit
+-- below 2^64 up to the limit, and then the band to there has at most 525; not below it past the limit
 agree : Bool → Bool → Bool → Bool
 agree true b c = b && c
 agree false b c = not b
 
 unfoldable right : ℕ → ℕ → ℕ → Bool
 unfolding agree
-right n k c = agree (ltb c (2 ^ 64)) (leb k (getD limits (n - k) 0)) (leb ((n - k + 1) * (k + 1)) 525)
+right n k c = agree (ltb c (2 ^ 64)) (leb k (getD limits (n - k) 0)) (leb ((n - k + 1) * (k + 1)) capacity)
 
 tested : tests (λ k. k) right 81 0 (1 ∷ []) ≡ true
 unfolding tests holds right step
@@ -39,7 +39,7 @@ tested = refl
 
 pub record Below (n k : ℕ) : Type 0 where
   pub fits : ltb (stirlingOf n k) (2 ^ 64) ≡ leb k (getD limits (n - k) 0)
-  pub room : stirlingOf n k < 2 ^ 64 → (n - k + 1) * (k + 1) ≤ 525
+  pub room : stirlingOf n k < 2 ^ 64 → (n - k + 1) * (k + 1) ≤ capacity
 
 same : (a b c : Bool) → agree a b c ≡ true → a ≡ b
 unfolding agree
@@ -55,7 +55,7 @@ third false b c h e = absurd (false≢true e)
 read : (n k : ℕ) → right n k (stirlingOf n k) ≡ true → Below n k
 unfolding right
 read n k h = record {
-  fits = same _ _ (leb ((n - k + 1) * (k + 1)) 525) h;
+  fits = same _ _ (leb ((n - k + 1) * (k + 1)) capacity) h;
   room = λ l. leb-true _ _ (third (ltb (stirlingOf n k) (2 ^ 64)) (leb k (getD limits (n - k) 0)) _ h (lt-ltb _ _ l));
 }
 

@@ -8,10 +8,14 @@ use lib.ListN.{length, getD}
 use Rattle.numbers.specs.Limits.{places}
 use Rattle.numbers.specs.Numbers.{stirlingOf}
 
+-- as many numbers as the largest band has
+abbrev pub capacity : ℕ
+capacity = 525
+
 -- the first d rows, of w numbers each, are there: number j of row e is that of the partitions of j + e models into j blocks
 pub record Filled (t : List ℕ) (w d : ℕ) : Type 0 where
-  pub size : length t ≡ 525
-  pub room : d * w ≤ 525
+  pub size : length t ≡ capacity
+  pub room : d * w ≤ capacity
   pub there : (e j : ℕ) → e < d → j < w → getD t (e * w + j) 0 ≡ stirlingOf (j + e) j
 
 -- the band goes as far as n models in k blocks, whose number stands at `at`

@@ -5,12 +5,13 @@ ghost use Prim.Native.Nat.{ℕ, suc, _+_, _-_, _*_, _≤_, _<_, _^_};
 ghost use lib.Dec.{ltb};
 ghost use Rattle.numbers.specs.Limits.{places};
 ghost use Rattle.numbers.specs.Numbers.{stirlingOf};
-ghost use Rattle.stirlings.specs.Band.{Filled, LastColumn};
+ghost use Rattle.stirlings.specs.Band.{capacity, Filled, LastColumn};
 
-// As many numbers as the largest band has: (80 - 74 + 1) * (74 + 1).
-pub const NUMBERS: usize = 525;
+// As many numbers as the largest band has, that of 80 models in 74 blocks: (80 - 74 + 1) * (74 + 1).
+pub const CAPACITY: usize = 525;
 
-// Of the numbers S(k + d, k) with k + d up to 80, those for k up to which are below 2^64?
+// The last k for which S(k + d, k) is below 2^64, or a larger one where all with k + d up to 80 are. Read off the computed triangle; the proof
+// tests every number of it.
 fn last_column(d: u64) -> u64
     ensures { λ r. ⌜ LastColumn d r ⌝ }
 {
@@ -49,49 +50,38 @@ pub fn stirling_fits(n: u64, k: u64) -> bool
     k <= last_column(n - k)
 }
 
-// Row d out of row d - 1: what stands on the left, and j times what stands above.
-fn row(t: &mut [u64; NUMBERS], w: usize, d: usize)
-    requires { ⌜ (0 < w) × ((0 < d) × (d * w + w ≤ 525)) ⌝ }
+// Row d out of row d - 1: to what stands on the left comes j times what stands above.
+fn row(t: &mut [u64; CAPACITY], w: usize, d: usize)
+    requires { ⌜ (0 < d) × (d * w + w ≤ capacity) ⌝ }
     requires { ⌜ ((j : ℕ) → j < w → stirlingOf (j + d) j < 2 ^ 64) ⌝ }
     requires { ⌜ Filled (now t) w d ⌝ }
     ensures { λ _. ⌜ Filled (now (t .exit)) w (suc d) ⌝ }
 {
-    let at = d * w;
-    let above = at - w;
-    t[at] = 0;
+    let mut above = d * w - w;
     let mut left: u64 = 0;
-    let mut j: usize = 1;
+    let mut j: usize = 0;
     while j < w {
-        left += (j as u64) * t[above + j];
-        t[at + j] = left;
+        left += (j as u64) * t[above];
+        t[above + w] = left;
+        above += 1;
         j += 1;
     }
 }
 
 // Every number that a rank among the partitions of n models into k blocks reads: S(j + d, j), for d up to n - k and j up to k, at d * (k + 1) + j.
-// Row 0 is all ones: as many blocks as models.
-pub fn band(n: u64, k: u64) -> [u64; NUMBERS]
+// Row 0, as many blocks as models, has to be there: an array of ones has it.
+pub fn fill(n: u64, k: u64, t: &mut [u64; CAPACITY])
     requires { ⌜ (n ≤ places) × ((k ≤ n) × (stirlingOf n k < 2 ^ 64)) ⌝ }
-    ensures { λ r. ⌜ Filled r (k + 1) (n - k + 1) ⌝ }
+    requires { ⌜ Filled (now t) (k + 1) 1 ⌝ }
+    ensures { λ _. ⌜ Filled (now (t .exit)) (k + 1) (n - k + 1) ⌝ }
 {
     let w = k as usize + 1;
     let rows = (n - k) as usize + 1;
-    let mut t = [1u64; NUMBERS];
     let mut d: usize = 1;
     while d < rows {
-        row(&mut t, w, d);
+        row(t, w, d);
         d += 1;
     }
-    t
-}
-
-// The number of partitions of m models into j blocks, out of a band with rows of w numbers.
-pub fn read(t: &[u64; NUMBERS], w: usize, m: usize, j: usize) -> u64
-    requires { ⌜ (j ≤ m) × (j < w) ⌝ }
-    requires { ⌜ Filled (now t) w (m - j + 1) ⌝ }
-    ensures { λ r. ⌜ r ≡ stirlingOf m j ⌝ }
-{
-    t[(m - j) * w + j]
 }
 
 // The number of partitions of n models into k blocks.
@@ -102,6 +92,7 @@ pub fn stirling(n: u64, k: u64) -> u64
     if n < k {
         return 0;
     }
-    let t = band(n, k);
-    read(&t, k as usize + 1, n as usize, k as usize)
+    let mut t = [1u64; CAPACITY];
+    fill(n, k, &mut t);
+    t[(n - k) as usize * (k as usize + 1) + k as usize]
 }

@@ -13,6 +13,18 @@
 //     a z          a listing, by FIRST and NEXT with each object's rank and the object of that rank, or by LAST and PREVIOUS
 //
 // A code is 100 for done, 101 for moved, 102 for END, or the number of the question missed, and 1000 more from COUNT and RANK.
+//
+// The expected text, `stdout`, is that of the files in turn. `small_families`, `refusals` and `large_families` (at both edges of 2^64 and at
+// 80 places) were made by a Python program of its own. Small families: strings filtered by the table's words and sorted by a comparison
+// written from "Which of two objects comes first". Refusals and large families: objects by rank, counted place by place as Loehr does, a
+// step being the rank one up or down; so there the order rests on the same recursion as our listings. `listings`, of subsets, anagrams and
+// permutations: a second Python program, all strings filtered by the table's words, sorted by that comparison, numbered from 0.
+// Of the first three the lines were then taken over without the blank at their end, and those of `refusals` with the label in front.
+//
+// `published` has the worked examples of the sources that concern these orders, beyond the twelve proof cases, with the number of each
+// example, typed from the sources: Loehr's chapter (000) 5.20 to 5.41, and Loehr 2019 (004) 3.1 and 3.3. Letters a, b, .. are written
+// 1, 2, ..; N is 1 and E is 0. In 5.38 the source prints bdcacbc and then works with the tails accb and ccb, that is with bdcaccb. A list
+// is FIRST, and NEXT of each object that the source lists.
 ghost use mathlib.Core.Path.{_≡_};
 ghost use Prim.Native.Nat.{_≤_};
 ghost use lib.ListN.{length};
@@ -25,6 +37,13 @@ use libc::STDOUT_FILENO;
 
 // More objects than any walk to the end meets here.
 const TO_THE_END: u64 = 5000;
+
+// The calls by which a walk begins and goes on, and how many objects it meets at most.
+pub struct Route {
+    pub start: u8,
+    pub step: u8,
+    pub limit: u64,
+}
 
 // An answer's code, the number of objects met, and a digest of them.
 pub struct Met {
@@ -120,39 +139,27 @@ fn call(letter: u8, f: Family, counts: &[u8], rank: u64, object: &mut [u8]) -> u
     }
 }
 
-fn shown(code: u64, object: &[u8]) {
-    match code {
-        100 | 101 => bytes(object),
-        102 => text(b" done"),
-        _ => number(code),
-    }
-}
-
-// An object, its rank, and the object of that rank, written over zeros.
-fn with_rank(f: Family, counts: &[u8], object: &mut [u8]) {
-    bytes(object);
-    text(b" :");
-    let rank = call(b'r', f, counts, 0, object);
-    number(rank);
-    text(b" :");
-    listings::fill_with(object, 0);
-    call(b'u', f, counts, rank, object);
-    bytes(object);
-}
-
-// What a walk prints of the object that it meets.
-fn meet(letter: u8, rank: u64, f: Family, counts: &[u8], object: &mut [u8]) {
+// What a walk prints of the object that it meets: in a listing the object, and going on its rank and the object of that rank, written over
+// zeros; through the ranks nothing, unless the rank differs.
+fn meet(letter: u8, met: u64, f: Family, counts: &[u8], object: &mut [u8]) {
     match letter {
         b'a' => {
             text(b"\n");
-            with_rank(f, counts, object);
+            bytes(object);
+            text(b" :");
+            let rank = call(b'r', f, counts, 0, object);
+            number(rank);
+            text(b" :");
+            listings::fill_with(object, 0);
+            call(b'u', f, counts, rank, object);
+            bytes(object);
         }
         b'z' => {
             text(b"\n");
             bytes(object);
         }
         b't' => {
-            if call(b'r', f, counts, 0, object) != rank {
+            if call(b'r', f, counts, 0, object) != met {
                 text(b" rank differs");
             }
         }
@@ -160,23 +167,47 @@ fn meet(letter: u8, rank: u64, f: Family, counts: &[u8], object: &mut [u8]) {
     }
 }
 
-fn walk(
-    letter: u8,
-    start: u8,
-    step: u8,
-    limit: u64,
-    f: Family,
-    counts: &[u8],
-    object: &mut [u8],
-) -> Met {
+fn plan(letter: u8) -> Route {
+    match letter {
+        b'>' => Route {
+            start: b'f',
+            step: b'n',
+            limit: 300,
+        },
+        b'<' => Route {
+            start: b'l',
+            step: b'p',
+            limit: 300,
+        },
+        b't' => Route {
+            start: b'u',
+            step: b'u',
+            limit: TO_THE_END,
+        },
+        b'b' | b'z' => Route {
+            start: b'l',
+            step: b'p',
+            limit: TO_THE_END,
+        },
+        _ => Route {
+            start: b'f',
+            step: b'n',
+            limit: TO_THE_END,
+        },
+    }
+}
+
+fn walk(letter: u8, f: Family, counts: &[u8], object: &mut [u8]) -> Met {
+    let p = plan(letter);
+    let limit = p.limit;
     let mut sum = 0;
     let mut met = 0;
-    let mut code = call(start, f, counts, 0, object);
+    let mut code = call(p.start, f, counts, 0, object);
     while 99 < code && code < 102 && met < limit {
         sum = digest(sum, object);
         meet(letter, met, f, counts, object);
         met += 1;
-        let answer = call(step, f, counts, met, object);
+        let answer = call(p.step, f, counts, met, object);
         if limit == TO_THE_END {
             code = answer;
         }
@@ -191,19 +222,7 @@ fn walk(
 fn operation(letter: u8, f: Family, counts: &[u8], rank: u64, object: &mut [u8]) {
     match letter {
         b'c' | b'r' => number(call(letter, f, counts, rank, object)),
-        b'A'..=b'Z' => shown(call(letter + 32, f, counts, rank, object), object),
-        b'w' => told(walk(letter, b'f', b'n', TO_THE_END, f, counts, object)),
-        b'b' => told(walk(letter, b'l', b'p', TO_THE_END, f, counts, object)),
-        b't' => told(walk(letter, b'u', b'u', TO_THE_END, f, counts, object)),
-        b'>' => told(walk(letter, b'f', b'n', 300, f, counts, object)),
-        b'<' => told(walk(letter, b'l', b'p', 300, f, counts, object)),
-        b'a' => {
-            walk(letter, b'f', b'n', TO_THE_END, f, counts, object);
-        }
-        b'z' => {
-            walk(letter, b'l', b'p', TO_THE_END, f, counts, object);
-        }
-        _ => {
+        b'f' | b'l' | b'n' | b'p' | b'u' => {
             let code = call(letter, f, counts, rank, object);
             told(Met {
                 code,
@@ -211,6 +230,16 @@ fn operation(letter: u8, f: Family, counts: &[u8], rank: u64, object: &mut [u8])
                 sum: digest(0, object),
             });
         }
+        b'A'..=b'Z' => {
+            if call(letter + 32, f, counts, rank, object) == 102 {
+                return text(b" done");
+            }
+            bytes(object);
+        }
+        b'a' | b'z' => {
+            walk(letter, f, counts, object);
+        }
+        _ => told(walk(letter, f, counts, object)),
     }
 }
 

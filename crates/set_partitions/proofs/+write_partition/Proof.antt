@@ -8,7 +8,7 @@ use lib.ListN.{length, take, getD, set, length-set}
 use borrow.Fn.Kinds.{In}
 use borrow.Fn.PlainCycle.{Measures, is, falls, and}
 use Rattle.numbers.specs.Numbers.{stirlingOf}
-use Rattle.stirlings.specs.Band.{Reaches}
+use Rattle.stirlings.specs.Band.{capacity, Reaches}
 use Rattle.stirlings.proofs.Walk.{to-alone, to-joined, row-back, number, within}
 use Rattle.listings.specs.Bytes.{Bytes}
 use Rattle.set_partitions.proofs.Parts.{front-long, same-long}
@@ -50,7 +50,7 @@ module _ (t : ℕ) (c : write-partition-lts.Else1 (write-partition-below t, writ
   alone-next : let a = c .before .before .args in Reaches (a .band .now) (a .w) (a .at - 1) (length (a .object .now) - 1) (a .k - 1)
   alone-next = let a = c .before .before .args in to-alone (a .band .now) (a .w) (a .at) (length (a .object .now)) (a .k) (c .before .before .pre .1 .1 .1) (parts .some) (omega (arith, c .if1 .left))
 
-  alone-there : let a = c .before .before .args in (a .at - 1 < 525) × (getD (a .band .now) (a .at - 1) 0 ≡ stirlingOf (length (a .object .now) - 1) (a .k - 1))
+  alone-there : let a = c .before .before .args in (a .at - 1 < capacity) × (getD (a .band .now) (a .at - 1) 0 ≡ stirlingOf (length (a .object .now) - 1) (a .k - 1))
   alone-there =
       let a = c .before .before .args in
       (within (a .band .now) (a .w) (a .at - 1) (length (a .object .now) - 1) (a .k - 1) alone-next, number (a .band .now) (a .w) (a .at - 1) (length (a .object .now) - 1) (a .k - 1) alone-next (omega (arith, parts .few)))
@@ -67,7 +67,7 @@ module _ (t : ℕ) (c : write-partition-lts.Else2 (write-partition-below t, writ
   joined-next : let a = c .before .before .before .before .args in Reaches (a .band .now) (a .w) (a .at - a .w) (length (a .object .now) - 1) (a .k)
   joined-next = let a = c .before .before .before .before .args in to-joined (a .band .now) (a .w) (a .at) (length (a .object .now)) (a .k) (c .before .before .before .before .pre .1 .1 .1) fewer-blocks
 
-  joined-there : let a = c .before .before .before .before .args in (a .at - a .w < 525) × (getD (a .band .now) (a .at - a .w) 0 ≡ stirlingOf (length (a .object .now) - 1) (a .k))
+  joined-there : let a = c .before .before .before .before .args in (a .at - a .w < capacity) × (getD (a .band .now) (a .at - a .w) 0 ≡ stirlingOf (length (a .object .now) - 1) (a .k))
   joined-there =
       let a = c .before .before .before .before .args in
       (within (a .band .now) (a .w) (a .at - a .w) (length (a .object .now) - 1) (a .k) joined-next, number (a .band .now) (a .w) (a .at - a .w) (length (a .object .now) - 1) (a .k) joined-next (omega (arith, fewer-blocks)))

@@ -1,27 +1,55 @@
-use mathlib.Core.Path.{_≡_, refl, sym, _∙_, ap, subst}
-use Prim.Native.Nat.{ℕ, suc, _+_, _*_, _-_, _≤_, _<_, _^_}
+-- `stirlings::row` meets its contract: the loop keeps the part of the row that stands, and the number that was stored last.
+-- Assumes nothing.
+use mathlib.Core.Path.{_≡_, subst}
+use Prim.Native.Nat.{_+_, _*_, _-_, _≤_, _<_, _^_}
 use native.Mathlib.Omega.{arith}
 use native.Mathlib.Numerals.{add-one}
-use lib.ListN.{length, getD, set, length-set}
-use Rattle.stirlings.specs.Band.{Filled}
+use lib.ListN.{getD}
 use Rattle.stirlings.proofs.Laws.{band}
-use Rattle.stirlings.proofs.Rows.{Doing, begin, still, more, row-there, next-value, least}
+use Rattle.stirlings.proofs.Rows.{Doing, begin, more, row-there, next-value, least}
 use Rattle.stirlings.proofs.row.Statement.{statement}
 use Rattle.stirlings.proofs.row.Tie as tie
-use Rattle.stirlings.proofs.row.Reads as reads
-use Rattle.stirlings.proofs.row.Lts as lts
 
 abbrev Inv-loop : tie.InvT-loop
-Inv-loop t₀ w d at above left₀ j₀ t left j = (at ≡ d * w) × ((above + w ≡ at) × ((1 ≤ j) × ((j ≤ w) × Doing t₀ t d at left j)))
+Inv-loop t₀ w d above₀ left₀ j₀ t above left j = (above + w ≡ d * w + j) × ((j ≤ w) × Doing t₀ t d (d * w) left j)
 
 abbrev μ-loop : tie.MeasureT-loop
-μ-loop t₀ w d at above left₀ j₀ t left j = w - j
+μ-loop t₀ w d above₀ left₀ j₀ t above left j = w - j
 
-mul-at : tie.Need-mul-at Inv-loop μ-loop
-mul-at c = omega arith
+-- what a turn stores is the next number of the row, and fits
+
+value : (c : tie.After-left Inv-loop μ-loop) → let l = c .before .before .loop in l .left + l .j * getD (l .t) (l .above) 0 ≡ band (c .before .before .before .args .d) (l .j)
+value c =
+    let a = c .before .before .before .args in
+    let l = c .before .before .loop in
+    next-value (a .t .now) (l .t) (a .w) (a .d) (l .left) (l .j) (l .above) (omega arith) (omega arith) (l .inv .0) (c .before .before .before .pre .1 .1) (l .inv .1 .1)
+
+fitting : (c : tie.After-left Inv-loop μ-loop) → band (c .before .before .before .args .d) (c .before .before .loop .j) < 2 ^ 64
+fitting c = c .before .before .before .pre .1 .0 (c .before .before .loop .j) (omega arith)
+
+mul-above : tie.Need-mul-above Inv-loop μ-loop
+mul-above c = omega arith
 
 sub-above : tie.Need-sub-above Inv-loop μ-loop
 sub-above c = least (c .args .d) (c .args .w) (omega arith)
+
+loop-holds : tie.Need-loop-holds Inv-loop μ-loop
+loop-holds c = let a = c .args in (omega (arith, least (a .d) (a .w) (omega arith)), (omega arith, begin (a .t .now) (a .d) (a .d * a .w)))
+
+mul-left : tie.Need-mul-left Inv-loop μ-loop
+mul-left c = omega arith
+
+element-copy-out-left : tie.Need-element-copy-out-left Inv-loop μ-loop
+element-copy-out-left c = omega arith
+
+mul-left-2 : tie.Need-mul-left-2 Inv-loop μ-loop
+mul-left-2 c = omega (arith, value c, fitting c)
+
+add-left : tie.Need-add-left Inv-loop μ-loop
+add-left c = omega (arith, value c, fitting c)
+
+add-t : tie.Need-add-t Inv-loop μ-loop
+add-t c = omega arith
 
 mul-t : tie.Need-mul-t Inv-loop μ-loop
 mul-t c = omega arith
@@ -29,46 +57,8 @@ mul-t c = omega arith
 element-write-t : tie.Need-element-write-t Inv-loop μ-loop
 element-write-t c = omega arith
 
-loop-holds : tie.Need-loop-holds Inv-loop μ-loop
-loop-holds c = let a = c .args in (refl, (omega (arith, least (a .d) (a .w) (omega arith)), (omega arith, (omega arith, begin (a .t .now) (a .d) (a .d * a .w) (omega arith) (omega (arith, c .pre .1 .1 .size))))))
-
-add-left : tie.Need-add-left Inv-loop μ-loop
-add-left c = omega arith
-
-mul-left : tie.Need-mul-left Inv-loop μ-loop
-mul-left c = omega arith
-
-element-copy-out-left : tie.Need-element-copy-out-left Inv-loop μ-loop
-element-copy-out-left c = omega (arith, least (c .before .before .args .d) (c .before .before .args .w) (omega arith))
-
--- what a turn stores is the next number of the row, and fits
-
-value : (c : tie.After-left Inv-loop μ-loop) → let a = c .before .before .before .args in let l = c .before .before .loop in l .left + l .j * getD (l .t) (a .d * a .w - a .w + l .j) 0 ≡ band (a .d) (l .j)
-value c =
-    let a = c .before .before .before .args in
-    let l = c .before .before .loop in
-    next-value (set (a .t .now) (a .d * a .w) 0) (l .t) (a .w) (a .d) (l .left) (l .j) (omega arith) (omega arith) (omega arith) (still (a .t .now) (a .w) (a .d) 0 (c .before .before .before .pre .1 .1)) (l .inv .1 .1 .1 .1)
-
-fitting : (c : tie.After-left Inv-loop μ-loop) → band (c .before .before .before .args .d) (c .before .before .loop .j) < 2 ^ 64
-fitting c = c .before .before .before .pre .1 .0 (c .before .before .loop .j) (omega arith)
-
-set-length : (c : tie.After-left Inv-loop μ-loop) → length (set (c .before .before .before .args .t .now) (c .before .before .before .args .d * c .before .before .before .args .w) 0) ≡ 525
-set-length c = simp length-set (c .before .before .before .pre .1 .1 .size)
-
-mul-left-2 : tie.Need-mul-left-2 Inv-loop μ-loop
-mul-left-2 c = record { fits = omega (arith, value c, fitting c) }
-
-add-left-2 : tie.Need-add-left-2 Inv-loop μ-loop
-add-left-2 c = record { fits = omega (arith, value c, fitting c) }
-
-add-t : tie.Need-add-t Inv-loop μ-loop
-add-t c = omega arith
-
-mul-t-2 : tie.Need-mul-t-2 Inv-loop μ-loop
-mul-t-2 c = omega arith
-
-element-write-t-2 : tie.Need-element-write-t-2 Inv-loop μ-loop
-element-write-t-2 c = omega arith
+add-above : tie.Need-add-above Inv-loop μ-loop
+add-above c = omega arith
 
 add-j : tie.Need-add-j Inv-loop μ-loop
 add-j c = omega arith
@@ -80,14 +70,15 @@ loop-again : tie.Need-loop-again Inv-loop μ-loop
 loop-again c =
     let a = c .before .before .before .args in
     let l = c .before .before .loop in
-    (refl, (l .inv .1 .0, (omega arith, (omega arith, rw add-one (more _ (l .t) (a .d) (a .d * a .w) (l .left) (l .j) _ (omega (arith, l .inv .1 .1 .1 .1 .same, set-length c)) (value c) (l .inv .1 .1 .1 .1))))))
+    let r = l .inv .1 .1 in
+    (omega arith, (omega arith, rw add-one (more (a .t .now) (l .t) (a .d) (a .d * a .w) (l .left) (l .j) (l .above + a .w) _ (l .inv .0) (omega (arith, r .same, c .before .before .before .pre .1 .1 .size)) (value c) r)))
 
 returns : tie.Need-returns Inv-loop μ-loop
 returns c =
     let a = c .before .before .args in
     let l = c .before .loop in
-    let q : l .j ≡ a .w = omega arith in
-    row-there (set (a .t .now) (a .d * a .w) 0) (l .t) (a .w) (a .d) (l .left) (omega arith) (still (a .t .now) (a .w) (a .d) 0 (c .before .before .pre .1 .1)) (subst (λ (j : ℕ). Doing (set (a .t .now) (a .d * a .w) 0) (l .t) (a .d) (a .d * a .w) (l .left) j) q (l .inv .1 .1 .1 .1))
+    let through : l .j ≡ a .w = omega arith in
+    row-there (a .t .now) (l .t) (a .w) (a .d) (l .left) (omega arith) (c .before .before .pre .1 .1) (subst (Doing (a .t .now) (l .t) (a .d) (a .d * a .w) (l .left)) through (l .inv .1 .1))
 
 pub row-spec : {M : Type 1} → statement M
 row-spec =
@@ -95,19 +86,17 @@ row-spec =
     (tie.spec
     Inv-loop
     μ-loop
-    mul-at
+    mul-above
     sub-above
-    mul-t
-    element-write-t
     loop-holds
-    add-left
     mul-left
     element-copy-out-left
     mul-left-2
-    add-left-2
+    add-left
     add-t
-    mul-t-2
-    element-write-t-2
+    mul-t
+    element-write-t
+    add-above
     add-j
     loop-less
     loop-again

@@ -10,10 +10,13 @@ use Rattle.walks.proofs.walk.Statement.{statement}
 use Rattle.walks.proofs.walk.Tie as tie
 
 abbrev Inv-loop : tie.InvT-loop
-Inv-loop letter start step limit f counts object₀ sum₀ met₀ code₀ object sum met code = length object ≡ length object₀
+Inv-loop letter f counts object₀ p limit sum₀ met₀ code₀ object sum met code = length object ≡ length object₀
 
 abbrev μ-loop : tie.MeasureT-loop
-μ-loop letter start step limit f counts object₀ sum₀ met₀ code₀ object sum met code = limit - met
+μ-loop letter f counts object₀ p limit sum₀ met₀ code₀ object sum met code = limit - met
+
+plan-requires : tie.Need-plan-requires Inv-loop μ-loop
+plan-requires c κs = search needs
 
 call-requires : tie.Need-call-requires Inv-loop μ-loop
 call-requires c κs = search needs
@@ -69,6 +72,7 @@ walk-spec =
     (tie.spec
     Inv-loop
     μ-loop
+    plan-requires
     call-requires
     loop-holds
     digest-requires

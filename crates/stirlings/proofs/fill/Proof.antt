@@ -1,22 +1,21 @@
-use mathlib.Core.Path.{_≡_, refl, subst}
-use Prim.Native.Nat.{ℕ, _+_, _*_, _-_, _≤_}
+-- `stirlings::fill` meets its contract: the loop keeps the rows that are there.
+-- Assumes nothing.
+use mathlib.Core.Path.{_≡_, subst}
+use Prim.Native.Nat.{_+_, _-_, _*_, _≤_}
 use native.Mathlib.Omega.{arith}
 use native.Mathlib.Numerals.{add-one}
-use Rattle.stirlings.specs.Band.{Filled}
+use Rattle.stirlings.specs.Band.{capacity, Filled}
 use Rattle.stirlings.proofs.Laws.{all-fit}
 use Rattle.stirlings.proofs.Limits.{below}
-use Rattle.stirlings.proofs.Rows.{ones, room}
-use Rattle.stirlings.proofs.band.Statement.{statement}
-use Rattle.stirlings.proofs.band.Tie as tie
-use Rattle.stirlings.proofs.band.Reads as reads
-use Rattle.stirlings.proofs.band.Lts as lts
-use Rattle.stirlings.proofs.row.Reads as row-reads
+use Rattle.stirlings.proofs.Rows.{room}
+use Rattle.stirlings.proofs.fill.Statement.{statement}
+use Rattle.stirlings.proofs.fill.Tie as tie
 
 abbrev Inv-loop : tie.InvT-loop
-Inv-loop n k w rows t₀ d₀ t d = (1 ≤ d) × ((d ≤ rows) × Filled t w d)
+Inv-loop n k t₀ w rows d₀ t d = (1 ≤ d) × ((d ≤ rows) × Filled t w d)
 
 abbrev μ-loop : tie.MeasureT-loop
-μ-loop n k w rows t₀ d₀ t d = rows - d
+μ-loop n k t₀ w rows d₀ t d = rows - d
 
 add-w : tie.Need-add-w Inv-loop μ-loop
 add-w c = omega arith
@@ -28,14 +27,14 @@ add-rows : tie.Need-add-rows Inv-loop μ-loop
 add-rows c = omega arith
 
 loop-holds : tie.Need-loop-holds Inv-loop μ-loop
-loop-holds c = (omega arith, (omega arith, ones 525 (c .args .k + 1) refl (omega arith)))
+loop-holds c = (omega arith, (omega arith, c .pre .1))
 
 row-requires : tie.Need-row-requires Inv-loop μ-loop
 row-requires c κs =
     let a = c .before .before .before .args in
     let l = c .before .before .loop in
-    let all : (a .n - a .k + 1) * (a .k + 1) ≤ 525 = below (a .n) (a .k) (omega arith) (omega arith) .room (omega arith) in
-    ((omega arith, (omega arith, room (l .d) (a .n - a .k + 1) (a .k + 1) 525 (omega arith) all)), (λ j h. all-fit (a .n) (a .k) (l .d) j (omega arith) (omega arith) (omega arith) (omega arith) (omega arith), l .inv .1 .1))
+    let all : (a .n - a .k + 1) * (a .k + 1) ≤ capacity = below (a .n) (a .k) (omega arith) (omega arith) .room (omega arith) in
+    ((omega arith, room (l .d) (a .n - a .k + 1) (a .k + 1) capacity (omega arith) all), (λ j h. all-fit (a .n) (a .k) (l .d) j (omega arith) (omega arith) (omega arith) (omega arith) (omega arith), l .inv .1 .1))
 
 add-d : tie.Need-add-d Inv-loop μ-loop
 add-d c = omega arith
@@ -53,8 +52,8 @@ returns c =
     let through : l .d ≡ a .n - a .k + 1 = omega arith in
     subst (Filled (l .t) (a .k + 1)) through (l .inv .1 .1)
 
-pub band-spec : {M : Type 1} → statement M
-band-spec =
+pub fill-spec : {M : Type 1} → statement M
+fill-spec =
     tie.close
     (tie.spec
     Inv-loop
