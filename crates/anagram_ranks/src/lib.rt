@@ -14,7 +14,7 @@ ghost use Rattle.anagrams.specs.Listing.{anagrams};
 pub mod permutations;
 mod ranking;
 
-use anagrams::letters::copied;
+use listings::copied;
 
 // How many words come before it.
 pub fn rank(counts: &[u8], object: &[u8]) -> u64

@@ -1,23 +1,8 @@
-// Letters that are left: a copy to take them from, taken one by one, and whether none is left.
+// Letters that are left: taken one by one, and whether none is left.
 ghost use mathlib.Core.Path.{_≡_};
-ghost use Prim.Native.Nat.{_≤_};
 ghost use lib.Dec.{eqb};
-ghost use lib.ListN.{length, take};
-ghost use Rattle.numbers.specs.Limits.{places};
 ghost use Rattle.numbers.specs.Sums.{total};
 ghost use Rattle.anagrams.specs.Objects.{isAnagram};
-use listings::copy;
-
-// The counts of the letters again, to take letters from.
-pub fn copied(counts: &[u8]) -> [u8; 80]
-    requires { ⌜ length (now counts) ≤ places ⌝ }
-    ensures { λ r. ⌜ (places ≡ length r) × (take (length (now (counts .entry))) r ≡ now (counts .entry)) ⌝ }
-{
-    let mut space = [0u8; 80];
-    let n = counts.len();
-    copy(&mut space[..n], counts);
-    space
-}
 
 // Is no letter left?
 fn none_left(left: &[u8]) -> bool

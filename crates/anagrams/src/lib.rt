@@ -13,11 +13,12 @@ ghost use Rattle.listings.specs.Steps.{stepAs};
 ghost use Rattle.anagrams.specs.Objects.{isAnagram, anagramBefore};
 ghost use Rattle.anagrams.specs.Listing.{anagrams};
 
-pub mod letters;
+mod letters;
 pub mod permutations;
 mod stepping;
 
 use listings::Step;
+use listings::copied;
 use listings::fill_with;
 
 // Does the slice hold a word of these letters?
@@ -25,7 +26,7 @@ pub fn is_object(counts: &[u8], object: &[u8]) -> bool
     requires { ⌜ length (now counts) ≤ places ⌝ }
     ensures { λ r. ⌜ r ≡ isAnagram (now (counts .entry)) (now (object .entry)) ⌝ }
 {
-    let mut space = letters::copied(counts);
+    let mut space = copied(counts);
     let n = counts.len();
     letters::spend_all(&mut space[..n], object)
 }

@@ -1,7 +1,8 @@
 // What every kind of family shares in code: the answer of a step, and the parts of an object that start over.
 ghost use mathlib.Core.Path.{_≡_};
 ghost use Prim.Native.Nat.{_+_, _≤_};
-ghost use lib.ListN.{length, replicate};
+ghost use lib.ListN.{length, replicate, take};
+ghost use Rattle.numbers.specs.Limits.{places};
 ghost use Rattle.numbers.specs.Sums.{range};
 
 // What NEXT and PREVIOUS answer: the object was replaced by its neighbour, or there is none and no byte changed.
@@ -43,4 +44,15 @@ pub fn copy(part: &mut [u8], from: &[u8])
         part[i] = from[i];
         i += 1;
     }
+}
+
+// The bytes again, in an array with room for as many as a family may have.
+pub fn copied(bytes: &[u8]) -> [u8; 80]
+    requires { ⌜ length (now bytes) ≤ places ⌝ }
+    ensures { λ r. ⌜ (places ≡ length r) × (take (length (now (bytes .entry))) r ≡ now (bytes .entry)) ⌝ }
+{
+    let mut space = [0u8; 80];
+    let n = bytes.len();
+    copy(&mut space[..n], bytes);
+    space
 }

@@ -1,13 +1,13 @@
 -- The rank of a subset by its last number, b: those below b come first, and then as many as before the numbers in front of it.
 -- Assumes nothing.
-use mathlib.Core.Path.{_≡_, refl, _∙_, ap}
+use mathlib.Core.Path.{_≡_, refl, sym, _∙_, ap}
 use mathlib.Core.Bool.{true}
 use mathlib.Core.List.{[], _∷_, _++_}
 use Prim.Native.Nat.{ℕ, zero, suc, _+_, _-_, _≤_, _<_}
 use native.Mathlib.Numerals.{add-one}
 use native.Mathlib.Omega.{arith}
 use lib.ListN.{length, take, drop, getD, set, drop-of-length-le}
-use lib.Seq.{length-take-le}
+use lib.Seq.{getD-take, take-take}
 use Rattle.numbers.specs.Numbers.{choose}
 use Rattle.numbers.proofs.Laws.{pascal, choose-mono}
 use Rattle.listings.specs.Bytes.{Bytes}
@@ -23,17 +23,17 @@ use Rattle.subsets.proofs.Theorem.{counted, lists}
 use Rattle.subsets.proofs.Places.{on-top}
 use Rattle.subsets.proofs.Lent.{front-long, rest}
 
--- how many come before x
-abbrev pub rankOf : ℕ → Bytes → ℕ
-rankOf n x = countBefore subsetBefore x (subsets n (length x))
+-- how many come before the first k numbers of x
+abbrev pub rankOf : ℕ → ℕ → Bytes → ℕ
+rankOf n k x = countBefore subsetBefore (take k x) (subsets n k)
 
-pub below-count : (n : ℕ) (x : Bytes) → isSubset n (length x) x ≡ true → rankOf n x < choose n (length x)
-below-count n x o = omega (arith, at-below (subsets n (length x)) (rankOf n x) (at-rank (lists n (length x)) x o), counted n (length x))
+pub below-count : (n k : ℕ) (x : Bytes) → isSubset n k (take k x) ≡ true → rankOf n k x < choose n k
+below-count n k x o = omega (arith, at-below (subsets n k) (rankOf n k x) (at-rank (lists n k) (take k x) o), counted n k)
 
-pub rank-of-none : (n : ℕ) (x : Bytes) → length x ≡ 0 → 0 ≡ rankOf n x
+pub rank-of-none : (n k : ℕ) (x : Bytes) → k ≡ 0 → 0 ≡ rankOf n k x
 unfolding subsets countBefore lastDiffers
-rank-of-none n [] e = refl
-rank-of-none n (b ∷ x) e = absurd (omega arith)
+rank-of-none n zero x e = refl
+rank-of-none n (suc k) x e = absurd (omega arith)
 
 by-last : (n top end : ℕ) {x : Bytes} (front : Bytes) → x ≡ front ++ (suc top ∷ []) → top < n → isSubset top end front ≡ true
     → countBefore subsetBefore x (subsets n (suc end)) ≡ choose top (suc end) + countBefore subsetBefore front (subsets top end)
@@ -45,30 +45,30 @@ by-last n top end front e h o =
 one-fewer : (n top k : ℕ) → top < n → choose top k ≤ choose n (suc k)
 one-fewer n top k h = omega (arith, pascal top k, choose-mono (suc k) h)
 
--- a subset and its last number
-pub record Parted (n end b : ℕ) (x : Bytes) : Type 0 where
+-- the first k numbers, b the last of them
+pub record Parted (n k end b : ℕ) (x : Bytes) : Type 0 where
   pub some : 1 ≤ b
   pub high : b ≤ n
-  pub long : length (take end x) ≡ end
-  pub front : isSubset (b - 1) (length (take end x)) (take end x) ≡ true
-  pub rank : rankOf n x ≡ choose (b - 1) (length x) + rankOf (b - 1) (take end x)
-  pub fewer : choose (b - 1) (length x) ≤ choose n (length x)
-  pub fewer-front : choose (b - 1) (length (take end x)) ≤ choose n (length x)
+  pub front : isSubset (b - 1) end (take end x) ≡ true
+  pub rank : rankOf n k x ≡ choose (b - 1) k + rankOf (b - 1) end x
+  pub fewer : choose (b - 1) k ≤ choose n k
+  pub fewer-front : choose (b - 1) end ≤ choose n k
 
-pub parted : (n end b : ℕ) (x : Bytes) → isSubset n (length x) x ≡ true → length x ≡ suc end → b ≡ getD x end 0 → Parted n end b x
-parted n end b x o e f =
-    let o′ : isSubset n (suc end) x ≡ true = rw e at o in
-    let t = topped n end x o′ in
-    let top : b - 1 ≡ t .top = omega (arith, t .last) in
-    let l : length (take end x) ≡ end = length-take-le end x (omega arith) in
+pub parted : (n k end b : ℕ) (x : Bytes) → isSubset n k (take k x) ≡ true → k ≡ suc end → b ≡ getD x end 0 → Parted n k end b x
+parted n k end b x o e f =
+    let y = take (suc end) x in
+    let o′ : isSubset n (suc end) y ≡ true = rw e at o in
+    let t = topped n end y o′ in
+    let last : getD y end 0 ≡ b = getD-take (suc end) x end 0 (omega arith) ∙ sym f in
+    let top : b - 1 ≡ t .top = omega (arith, t .last, last) in
+    let front : take end y ≡ take end x = take-take end (suc end) x (omega arith) in
     record {
-      some = omega (arith, t .last);
-      high = omega (arith, t .last, t .below);
-      long = l;
-      front = rw (l, top) (t .front);
-      rank = rw (l, top, e) (by-last n (t .top) end (take end x) (rw (t .last) at (in-two n end x o′)) (t .below) (t .front));
-      fewer = choose-mono (length x) (omega (arith, t .last, t .below));
-      fewer-front = rw (l, top, e) (one-fewer n (t .top) end (t .below));
+      some = omega (arith, t .last, last);
+      high = omega (arith, t .last, t .below, last);
+      front = rw top (rw front at (t .front));
+      rank = rw (top, e) (rw front at (by-last n (t .top) end (take end y) (rw (t .last) at (in-two n end y o′)) (t .below) (t .front)));
+      fewer = choose-mono k (omega (arith, t .last, t .below, last));
+      fewer-front = rw (top, e) (one-fewer n (t .top) end (t .below));
     }
 
 -- there is one subset of no numbers

@@ -3,7 +3,7 @@ ghost use mathlib.Core.Path.{_≡_};
 ghost use mathlib.Core.Bool.{true};
 ghost use mathlib.Core.List.{List};
 ghost use Prim.Native.Nat.{ℕ, _≤_, _<_, _^_};
-ghost use lib.ListN.{length};
+ghost use lib.ListN.{length, take};
 ghost use Rattle.numbers.specs.Limits.{places};
 ghost use Rattle.numbers.specs.Numbers.{choose};
 ghost use Rattle.listings.specs.Calls.{NEXT, PREVIOUS, Said, act};
@@ -16,6 +16,7 @@ mod search;
 
 use binomials::coefficient;
 use listings::Step;
+use listings::copied;
 use listings::fill_up;
 use search::largest_top;
 use search::number_to_lower;
@@ -93,20 +94,31 @@ pub fn previous(n: u64, object: &mut [u8]) -> Step
     Step::Stepped
 }
 
-// How many come before it: those without its last number, and then as many as before the others, below that number.
+// How many come before the first k numbers, by a call to itself for each: those without the last of them, and then as many as before the others, below
+// it. The numbers are lent as an array: where calls hand a slice on, the compiler makes no loop of them.
+fn rank_of(n: u64, numbers: &[u8; 80], k: usize) -> u64
+    requires { ⌜ (n ≤ places) × (k ≤ places) ⌝ }
+    requires { ⌜ isSubset n k (take k (now numbers)) ≡ true ⌝ }
+    requires { ⌜ choose n k < 2 ^ 64 ⌝ }
+    ensures { λ r. ⌜ r ≡ countBefore subsetBefore (take k (now (numbers .entry))) (subsets n k) ⌝ }
+{
+    if k == 0 {
+        return 0;
+    }
+    let end = k - 1;
+    let top = wide(numbers[end]) - 1;
+    coefficient(top, k as u64) + rank_of(top, numbers, end)
+}
+
+// How many come before it.
 pub fn rank(n: u64, object: &[u8]) -> u64
     requires { ⌜ n ≤ places ⌝ }
     requires { ⌜ isSubset n (length (now object)) (now object) ≡ true ⌝ }
     requires { ⌜ choose n (length (now object)) < 2 ^ 64 ⌝ }
     ensures { λ r. ⌜ r ≡ countBefore subsetBefore (now (object .entry)) (subsets n (length (now (object .entry)))) ⌝ }
 {
-    let k = object.len();
-    if k == 0 {
-        return 0;
-    }
-    let end = k - 1;
-    let top = wide(object[end]) - 1;
-    coefficient(top, k as u64) + rank(top, &object[..end])
+    let numbers = copied(object);
+    rank_of(n, &numbers, object.len())
 }
 
 // The object of a rank: its last number leaves as many below it as fit into the rank, and the others make up the rest.

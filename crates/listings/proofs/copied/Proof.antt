@@ -1,12 +1,12 @@
--- `anagrams::letters::copied` meets its contract: the part that is written is the counts.
+-- `listings::copied` meets its contract: the part that is written is the bytes.
 -- Assumes nothing.
 use mathlib.Core.Path.{_∙_, ap}
 use native.Mathlib.Omega.{arith}
 use lib.Seq.{take-at}
 use lib.ListN.{length, length-take, length-drop, length-append}
 use borrow.Author.Needs.{needs}
-use Rattle.anagrams.proofs.letters.copied.Statement.{statement}
-use Rattle.anagrams.proofs.letters.copied.Tie as tie
+use Rattle.listings.proofs.copied.Statement.{statement}
+use Rattle.listings.proofs.copied.Tie as tie
 
 array-borrow-prefix-space : tie.Need-array-borrow-prefix-space
 array-borrow-prefix-space c = search needs
@@ -18,7 +18,7 @@ copy-requires : tie.Need-copy-requires
 copy-requires c κs = simp length-take (omega arith)
 
 returns : tie.Need-returns
-returns c = let e = c .before .copy .ensures in (simp (length-append, length-drop) (omega (arith, ap length e)), take-at (c .before .copy .last .0) _ (length (c .before .before .before .before .args .counts .now)) (ap length e) ∙ e)
+returns c = let e = c .before .copy .ensures in (simp (length-append, length-drop) (omega (arith, ap length e)), take-at (c .before .copy .last .0) _ (length (c .before .before .before .before .args .bytes .now)) (ap length e) ∙ e)
 
 pub copied-spec : {M : Type 1} → statement M
 copied-spec =
