@@ -13,4 +13,5 @@ pub mod Totals
 pub mod TriangleIndex
 pub mod Triangles
 pub mod Weighted
+pub mod WeightedTests
 pub mod Widths

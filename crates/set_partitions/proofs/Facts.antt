@@ -13,6 +13,7 @@ use borrow.Author.Tests.{leb-true, le-leb, lt-ltb, le-ltb, eqb-true, eq-eqb}
 use Rattle.listings.specs.Bytes.{Bytes}
 use Rattle.listings.proofs.Bools.{and-true, and-makes}
 use Rattle.set_partitions.specs.Objects.{opens, isSetPartition, keyOf, keys}
+use Rattle.set_partitions.specs.Keys.{othersIn, blockOf}
 
 -- the first model, with m blocks used before it
 
@@ -145,15 +146,7 @@ partition-ends n k y e = step (eq-nil-or-concat y)
         let l : Behind 0 k (t .1) (t .0) = opens-last 0 k (t .1) (t .0) (subst (λ z. opens 0 k z ≡ true) q (both .1)) in
         record { front = t .0; block = t .1; whole = q; some = omega arith }
 
--- the last model by its key c, in suc k blocks: how many blocks the others have, and its own block
-
-unfoldable pub othersIn : ℕ → ℕ → ℕ
-othersIn k zero = k
-othersIn k (suc b) = suc k
-
-unfoldable pub blockOf : ℕ → ℕ → ℕ
-blockOf k zero = suc k
-blockOf k (suc b) = suc b
+-- the last model by its key c, in suc k blocks
 
 record Keyed (k c : ℕ) : Type 0 where
   from : 1 ≤ blockOf k c

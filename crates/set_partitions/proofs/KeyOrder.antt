@@ -22,7 +22,8 @@ use Rattle.listings.proofs.Bools.{and-makes, or-left, or-right}
 use Rattle.listings.proofs.OrderFacts.{last-irreflexive, last-transitive, last-total, last-snoc}
 use Rattle.set_partitions.specs.Objects.{isSetPartition, keys, setPartitionBefore}
 use Rattle.set_partitions.specs.Listing.{keysInOrder}
-use Rattle.set_partitions.proofs.Facts.{partition-cases, keys-long, keys-one, othersIn, blockOf, keys-put-on}
+use Rattle.set_partitions.proofs.Facts.{partition-cases, keys-long, keys-one, keys-put-on}
+use Rattle.set_partitions.specs.Keys.{othersIn, blockOf}
 
 -- the smaller key comes first
 abbrev pub keyBefore : ℕ → ℕ → Bool

@@ -11,3 +11,6 @@ pub mod KeyMoves
 pub mod KeyReading
 pub mod Reading
 pub mod Ranking
+pub mod Unranking
+pub mod InBand
+pub mod KeyCases

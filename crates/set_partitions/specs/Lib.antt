@@ -2,3 +2,4 @@
 pub mod Objects
 pub mod Listing
 pub mod Moves
+pub mod Keys

@@ -2,10 +2,11 @@
 // steps need no counts.
 ghost use mathlib.Core.Path.{_≡_};
 ghost use mathlib.Core.Bool.{true};
-ghost use Prim.Native.Nat.{_≤_, _<_, _^_};
+ghost use Prim.Native.Nat.{_+_, _≤_, _<_, _^_};
 ghost use lib.ListN.{length, take};
 ghost use Rattle.numbers.specs.Limits.{places};
 ghost use Rattle.numbers.specs.Numbers.{stirlingOf};
+ghost use Rattle.numbers.specs.Sums.{range};
 ghost use Rattle.stirlings.specs.Band.{Reaches};
 ghost use Rattle.listings.specs.Bytes.{Bytes};
 ghost use Rattle.listings.specs.Calls.{NEXT, PREVIOUS, Said, act};
@@ -13,15 +14,24 @@ ghost use Rattle.listings.specs.Places.{At, First, Last, countBefore};
 ghost use Rattle.listings.specs.Steps.{stepAs};
 ghost use Rattle.set_partitions.specs.Objects.{isSetPartition, keys as keysIn, KeysOf, setPartitionBefore};
 ghost use Rattle.set_partitions.specs.Listing.{setPartitions};
+ghost use Rattle.set_partitions.specs.Keys.{Written};
 
+mod last_key;
 mod search;
 
+use last_key::back_by;
+use last_key::block_of;
+use last_key::earlier;
+use last_key::others_in;
+use last_key::place_at;
 use listings::Step;
+use listings::copy;
 use listings::fill_up;
 use listings::fill_with;
 use search::block_to_lower;
 use search::block_to_raise;
 use search::keys_of;
+use stirling_rows::entry;
 use stirlings::CAPACITY;
 use stirlings::fill;
 
@@ -116,24 +126,37 @@ pub fn previous(k: u64, object: &mut [u8]) -> Step
     Step::Stepped
 }
 
-// By the keys of n models: through the rank of the partition left when the last of them is taken out. The band has the number of all partitions
-// at `at`: that of those with the last model alone one place before, and with it in a given block a row before.
+// By the keys of n models: through the rank of the partition left when the last of them is taken out. With as many blocks as models there is one
+// partition. The numbers are stored.
+fn rank_of_few(n: usize, k: u64, keys: &[u8; 80]) -> u64
+    requires { ⌜ (n ≤ 26) × (stirlingOf n k < 2 ^ 64) ⌝ }
+    requires { ⌜ KeysOf n k (take n (now keys)) ⌝ }
+    ensures { λ r. ⌜ ((x : Bytes) → isSetPartition n k x ≡ true → take n (now (keys .entry)) ≡ keysIn 0 x → r ≡ countBefore setPartitionBefore x (setPartitions n k)) ⌝ }
+{
+    if n as u64 <= k {
+        return 0;
+    }
+    let end = n - 1;
+    let key = keys[end] as u64;
+    let before = earlier(key, entry(end as u64, k - 1), entry(end as u64, k));
+    before + rank_of_few(end, others_in(k, key), keys)
+}
+
+// The same out of a band, which has the number of all partitions at `at`: that of those with the last model alone one place before, and with it in a
+// given block a row before.
 fn rank_of(n: usize, k: u64, keys: &[u8; 80], band: &[u64; CAPACITY], w: usize, at: usize) -> u64
     requires { ⌜ (n ≤ places) × (stirlingOf n k < 2 ^ 64) ⌝ }
     requires { ⌜ KeysOf n k (take n (now keys)) ⌝ }
     requires { ⌜ Reaches (now band) w at n k ⌝ }
     ensures { λ r. ⌜ ((x : Bytes) → isSetPartition n k x ≡ true → take n (now (keys .entry)) ≡ keysIn 0 x → r ≡ countBefore setPartitionBefore x (setPartitions n k)) ⌝ }
 {
-    if n == 0 {
+    if n as u64 <= k {
         return 0;
     }
     let end = n - 1;
-    let key = keys[end];
-    if key == 0 {
-        return rank_of(end, k - 1, keys, band, w, at - 1);
-    }
-    let earlier = band[at - 1] + (key as u64 - 1) * band[at - w];
-    earlier + rank_of(end, k, keys, band, w, at - w)
+    let key = keys[end] as u64;
+    let before = earlier(key, band[at - 1], band[at - w]);
+    before + rank_of(end, others_in(k, key), keys, band, w, at - back_by(w, key))
 }
 
 // How many partitions come before it, by its keys.
@@ -145,41 +168,74 @@ pub fn rank(k: u64, object: &[u8]) -> u64
 {
     let keys = keys_of(object);
     let n = object.len();
+    if n <= 26 {
+        return rank_of_few(n, k, &keys);
+    }
     let mut numbers = [1u64; CAPACITY];
     fill(n as u64, k, &mut numbers);
     let w = k as usize + 1;
     rank_of(n, k, &keys, &numbers, w, (n - k as usize) * w + k as usize)
 }
 
-// The object of a rank: the key of the last model, and the partition of the others. The band is as for `rank_of`.
-fn write_partition(
+// The partition of a rank, of n models: the key of the last model, and the partition of the others. The n places have each model in a block of its
+// own, as is right where there are as many blocks as models. The numbers are stored.
+fn write_few(n: usize, k: u64, rank: u64, blocks: &mut [u8; 80])
+    requires { ⌜ n ≤ 26 ⌝ }
+    requires { ⌜ (rank < stirlingOf n k) × (rank + 1 < 2 ^ 64) ⌝ }
+    requires { ⌜ take n (now blocks) ≡ range 1 n ⌝ }
+    ensures { λ _. ⌜ Written n k rank (now (blocks .entry)) (now (blocks .exit)) ⌝ }
+{
+    if n as u64 <= k {
+        return;
+    }
+    let end = n - 1;
+    let last = place_at(rank, entry(end as u64, k - 1), entry(end as u64, k));
+    let key = last.0;
+    blocks[end] = block_of(k, key);
+    write_few(end, others_in(k, key), last.1, blocks);
+}
+
+// The same out of a band, which is as for `rank_of`.
+fn write_many(
+    n: usize,
     k: u64,
     rank: u64,
-    object: &mut [u8],
+    blocks: &mut [u8; 80],
     band: &[u64; CAPACITY],
     w: usize,
     at: usize,
 )
-    requires { ⌜ length (now object) ≤ places ⌝ }
-    requires { ⌜ rank < stirlingOf (length (now object)) k ⌝ }
-    requires { ⌜ Reaches (now band) w at (length (now object)) k ⌝ }
-    ensures { λ _. ⌜ At (setPartitions (length (now (object .entry))) k) (now (object .exit)) rank ⌝ }
+    requires { ⌜ n ≤ places ⌝ }
+    requires { ⌜ (rank < stirlingOf n k) × (rank + 1 < 2 ^ 64) ⌝ }
+    requires { ⌜ take n (now blocks) ≡ range 1 n ⌝ }
+    requires { ⌜ Reaches (now band) w at n k ⌝ }
+    ensures { λ _. ⌜ Written n k rank (now (blocks .entry)) (now (blocks .exit)) ⌝ }
 {
-    let n = object.len();
-    if n == 0 {
+    if n as u64 <= k {
         return;
     }
     let end = n - 1;
-    let alone = band[at - 1];
-    if rank < alone {
-        object[end] = k as u8;
-        write_partition(k - 1, rank, &mut object[..end], band, w, at - 1);
-        return;
-    }
-    let joined = band[at - w];
-    let rest = rank - alone;
-    object[end] = (rest / joined + 1) as u8;
-    write_partition(k, rest % joined, &mut object[..end], band, w, at - w);
+    let last = place_at(rank, band[at - 1], band[at - w]);
+    let key = last.0;
+    blocks[end] = block_of(k, key);
+    write_many(
+        end,
+        others_in(k, key),
+        last.1,
+        blocks,
+        band,
+        w,
+        at - back_by(w, key),
+    );
+}
+
+// Each model in a block of its own.
+fn each_alone() -> [u8; 80]
+    ensures { λ r. ⌜ r ≡ range 1 places ⌝ }
+{
+    let mut blocks = [0u8; 80];
+    fill_up(&mut blocks, 1);
+    blocks
 }
 
 // The object of a rank.
@@ -190,15 +246,23 @@ pub fn unrank(k: u64, rank: u64, object: &mut [u8])
     ensures { λ _. ⌜ At (setPartitions (length (now (object .entry))) k) (now (object .exit)) rank ⌝ }
 {
     let n = object.len();
+    let mut blocks = each_alone();
+    if n <= 26 {
+        write_few(n, k, rank, &mut blocks);
+        copy(object, &blocks[..n]);
+        return;
+    }
     let mut numbers = [1u64; CAPACITY];
     fill(n as u64, k, &mut numbers);
     let w = k as usize + 1;
-    write_partition(
+    write_many(
+        n,
         k,
         rank,
-        object,
+        &mut blocks,
         &numbers,
         w,
         (n - k as usize) * w + k as usize,
     );
+    copy(object, &blocks[..n]);
 }

@@ -16,7 +16,7 @@ use Rattle.numbers.proofs.Stirlings.{stirling-weighted}
 use Rattle.numbers.proofs.Triangles.{row}
 use Rattle.numbers.proofs.Weighted.{step}
 use Rattle.stirlings.specs.Band.{capacity, LastColumn}
-use Rattle.stirlings.proofs.Tested.{holds, tests, every}
+use Rattle.numbers.proofs.WeightedTests.{holds, tests, every}
 
 -- row by row, the last column whose number is below 2^64
 abbrev pub limits : List ℕ

@@ -23,7 +23,7 @@ pub begin : (t : List ℕ) (d at : ℕ) → Doing t t d at 0 0
 unfolding left-of
 begin t d at = record { same = refl; last = refl; done = λ i h. absurd (omega arith); kept = λ m h. refl }
 
-here-or : (i j : ℕ) → i < suc j → (i ≡ j) ⊎ (i < j)
+pub here-or : (i j : ℕ) → i < suc j → (i ≡ j) ⊎ (i < j)
 here-or i j h = elim (decLe j i) [ yes g ↦ inl (omega arith) | no g ↦ inr (omega arith) ]
 
 module _ (t₀ t : List ℕ) (d at left j i v : ℕ) (e : i ≡ at + j) (b : i < length t) (n : v ≡ band d j) (r : Doing t₀ t d at left j) where

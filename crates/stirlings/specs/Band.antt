@@ -24,6 +24,11 @@ pub record Reaches (t : List ℕ) (w at n k : ℕ) : Type 0 where
   pub column : k < w
   pub here : at ≡ (n - k) * w + k
 
+-- row d alone
+pub record Row (t : List ℕ) (w d : ℕ) : Type 0 where
+  pub size : length t ≡ places + 1
+  pub there : (j : ℕ) → j < w → getD t j 0 ≡ stirlingOf (j + d) j
+
 -- within the limits, the numbers of row d up to column r are below 2^64, and no others
 pub record LastColumn (d r : ℕ) : Type 0 where
   pub fits : (k : ℕ) → k + d ≤ places → ltb (stirlingOf (k + d) k) (2 ^ 64) ≡ leb k r

@@ -1,11 +1,12 @@
-// Stirling numbers of the second kind, below 2^64: a band of their triangle, worked out once a call and lent, has every number that the ranks of
-// one family read.
+// Stirling numbers of the second kind, below 2^64, past the rows that are stored. A band of their triangle, worked out once a call and lent, has every
+// number that the ranks of one family read; one number alone takes one row.
 ghost use mathlib.Core.Path.{_≡_};
 ghost use Prim.Native.Nat.{ℕ, suc, _+_, _-_, _*_, _≤_, _<_, _^_};
 ghost use lib.Dec.{ltb};
 ghost use Rattle.numbers.specs.Limits.{places};
 ghost use Rattle.numbers.specs.Numbers.{stirlingOf};
-ghost use Rattle.stirlings.specs.Band.{capacity, Filled, LastColumn};
+ghost use Rattle.stirlings.specs.Band.{capacity, Filled, LastColumn, Row};
+use stirling_rows::entry;
 
 // As many numbers as the largest band has, that of 80 models in 74 blocks: (80 - 74 + 1) * (74 + 1).
 pub const CAPACITY: usize = 525;
@@ -84,15 +85,40 @@ pub fn fill(n: u64, k: u64, t: &mut [u64; CAPACITY])
     }
 }
 
-// The number of partitions of n models into k blocks.
+// Row d + 1 out of row d, in its place: to what stands on the left comes j times what stood here.
+fn next_row(t: &mut [u64; 81], w: usize, d: usize)
+    requires { ⌜ w ≤ places + 1 ⌝ }
+    requires { ⌜ ((j : ℕ) → j < w → stirlingOf (j + suc d) j < 2 ^ 64) ⌝ }
+    requires { ⌜ Row (now t) w d ⌝ }
+    ensures { λ _. ⌜ Row (now (t .exit)) w (suc d) ⌝ }
+{
+    let mut left: u64 = 0;
+    let mut j: usize = 0;
+    while j < w {
+        left += (j as u64) * t[j];
+        t[j] = left;
+        j += 1;
+    }
+}
+
+// The number of partitions of n models into k blocks: stored, or at the end of the last row.
 pub fn stirling(n: u64, k: u64) -> u64
     requires { ⌜ (n ≤ places) × (stirlingOf n k < 2 ^ 64) ⌝ }
     ensures { λ r. ⌜ r ≡ stirlingOf n k ⌝ }
 {
+    if n <= 26 {
+        return entry(n, k);
+    }
     if n < k {
         return 0;
     }
-    let mut t = [1u64; CAPACITY];
-    fill(n, k, &mut t);
-    t[(n - k) as usize * (k as usize + 1) + k as usize]
+    let mut t = [1u64; 81];
+    let w = k as usize + 1;
+    let rows = (n - k) as usize;
+    let mut d: usize = 0;
+    while d < rows {
+        next_row(&mut t, w, d);
+        d += 1;
+    }
+    t[k as usize]
 }

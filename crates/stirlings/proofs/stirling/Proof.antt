@@ -1,51 +1,82 @@
--- `stirlings::stirling` meets its contract: the last number of a band of its own, and 0 where there are more blocks than models.
+-- `stirlings::stirling` meets its contract: a stored number, or the last number of the last row, and 0 where there are more blocks than models.
 -- Assumes nothing.
-use mathlib.Core.Path.{refl, sym}
-use Prim.Native.Nat.{_+_, _-_, _*_}
+use mathlib.Core.Path.{_≡_, refl, sym, _∙_, ap}
+use Prim.Native.Nat.{ℕ, suc, _+_, _-_, _≤_}
 use native.Mathlib.Omega.{arith}
-use Rattle.numbers.proofs.Stirlings.{stirling-none}
-use Rattle.stirlings.specs.Band.{capacity}
-use Rattle.stirlings.proofs.Walk.{ones, whole, number}
+use native.Mathlib.Numerals.{add-one}
 use borrow.Author.Needs.{needs}
+use Rattle.numbers.specs.Numbers.{stirlingOf}
+use Rattle.numbers.proofs.Stirlings.{stirling-none}
+use Rattle.stirlings.specs.Band.{Row}
+use Rattle.stirlings.proofs.Laws.{all-fit}
+use Rattle.stirlings.proofs.OneRow.{row-of-ones}
 use Rattle.stirlings.proofs.stirling.Statement.{statement}
 use Rattle.stirlings.proofs.stirling.Tie as tie
 
-returns : tie.Need-returns
-returns c = let a = c .before .args in sym (stirling-none (a .n) (a .k) (c .if1 .taken))
+abbrev Inv-loop : tie.InvT-loop
+Inv-loop n k t₀ w rows d₀ t d = (d ≤ rows) × Row t w d
 
-fill-requires : tie.Need-fill-requires
-fill-requires c κs = let a = c .before .before .args in (omega arith, ones capacity (a .k + 1) refl (omega arith))
+abbrev μ-loop : tie.MeasureT-loop
+μ-loop n k t₀ w rows d₀ t d = rows - d
 
-add-result : tie.Need-add-result
-add-result c = search needs
+entry-requires : tie.Need-entry-requires Inv-loop μ-loop
+entry-requires c κs = search needs
 
-mul-result : tie.Need-mul-result
-mul-result c = search needs
+returns : tie.Need-returns Inv-loop μ-loop
+returns c = search needs
 
-add-result-2 : tie.Need-add-result-2
-add-result-2 c = search needs
+returns-2 : tie.Need-returns-2 Inv-loop μ-loop
+returns-2 c = let a = c .before .before .args in sym (stirling-none (a .n) (a .k) (c .if2 .taken))
 
-mul-result-2 : tie.Need-mul-result-2
-mul-result-2 c = search needs
+add-w : tie.Need-add-w Inv-loop μ-loop
+add-w c = omega arith
 
-array-read-result : tie.Need-array-read-result
-array-read-result c = search needs
+loop-holds : tie.Need-loop-holds Inv-loop μ-loop
+loop-holds c = let a = c .before .before .args in (omega arith, row-of-ones 81 (a .k + 1) refl (omega arith))
 
-returns-2 : tie.Need-returns-2
-returns-2 c =
-    let a = c .before .before .before .args in
-    let t = c .fill .last .1 .1 .0 in
-    number t (a .k + 1) ((a .n - a .k) * (a .k + 1) + a .k) (a .n) (a .k) (whole t (a .n) (a .k) (c .fill .ensures)) (omega arith)
+next-row-requires : tie.Need-next-row-requires Inv-loop μ-loop
+next-row-requires c κs =
+    let a = c .before .before .before .before .before .args in
+    let l = c .before .before .loop in
+    (omega arith, (λ j h. all-fit (a .n) (a .k) (suc (l .d)) j (omega arith) (omega arith) (omega arith) (omega arith) (omega arith), l .inv .1))
+
+add-d : tie.Need-add-d Inv-loop μ-loop
+add-d c = omega arith
+
+loop-less : tie.Need-loop-less Inv-loop μ-loop
+loop-less c = omega arith
+
+loop-again : tie.Need-loop-again Inv-loop μ-loop
+loop-again c = (omega arith, rw (add-one (c .before .before .before .loop .d)) (c .next-row .ensures))
+
+mul-result : tie.Need-mul-result Inv-loop μ-loop
+mul-result c = omega arith
+
+array-read-result : tie.Need-array-read-result Inv-loop μ-loop
+array-read-result c = omega arith
+
+returns-3 : tie.Need-returns-3 Inv-loop μ-loop
+returns-3 c =
+    let a = c .before .before .before .before .args in
+    let l = c .before .loop in
+    let all : a .k + l .d ≡ a .n = omega arith in
+    l .inv .1 .there (a .k) (omega arith) ∙ ap (λ (i : ℕ). stirlingOf i (a .k)) all
 
 pub stirling-spec : {M : Type 1} → statement M
 stirling-spec =
     tie.close
     (tie.spec
+    Inv-loop
+    μ-loop
+    entry-requires
     returns
-    fill-requires
-    add-result
+    returns-2
+    add-w
+    loop-holds
+    next-row-requires
+    add-d
+    loop-less
+    loop-again
     mul-result
-    add-result-2
-    mul-result-2
     array-read-result
-    returns-2)
+    returns-3)

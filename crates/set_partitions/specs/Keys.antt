@@ -1,0 +1,44 @@
+-- What the key of the last model says, of a partition into k + 1 blocks, and where a rank comes among the keys in their order.
+-- Assumes nothing.
+use mathlib.Core.Path.{_≡_}
+use Prim.Native.Nat.{ℕ, zero, suc, _+_, _-_, _*_, _<_}
+use lib.ListN.{length, take, drop}
+use Rattle.listings.specs.Bytes.{Bytes}
+use Rattle.listings.specs.Places.{At}
+use Rattle.set_partitions.specs.Listing.{setPartitions}
+
+-- the blocks of the others
+unfoldable pub othersIn : ℕ → ℕ → ℕ
+othersIn k zero = k
+othersIn k (suc b) = suc k
+
+-- the block of the last model
+unfoldable pub blockOf : ℕ → ℕ → ℕ
+blockOf k zero = suc k
+blockOf k (suc b) = suc b
+
+-- how many partitions have the key, out of those with the last model alone and those with it in a given block of the others
+unfoldable pub having : ℕ → ℕ → ℕ → ℕ
+having zero alone joined = alone
+having (suc b) alone joined = joined
+
+-- how many come before those
+unfoldable pub earlierBy : ℕ → ℕ → ℕ → ℕ
+earlierBy zero alone joined = 0
+earlierBy (suc b) alone joined = alone + b * joined
+
+-- the partition of a rank has the key, and is so far among those that have it
+pub record Placed (rank alone joined key rest : ℕ) : Type 0 where
+  pub whole : earlierBy key alone joined + rest ≡ rank
+  pub within : rest < having key alone joined
+
+-- how far back in a band of width w the number of the others stands
+unfoldable pub backBy : ℕ → ℕ → ℕ
+backBy w zero = 1
+backBy w (suc b) = w
+
+-- the partition of a rank has been written to the first n places, and to no other
+pub record Written (n k rank : ℕ) (from to : Bytes) : Type 0 where
+  pub there : At (setPartitions n k) (take n to) rank
+  pub size : length to ≡ length from
+  pub kept : drop n to ≡ drop n from

@@ -1,0 +1,2 @@
+-- The test of the stored numbers.
+pub mod Tested

@@ -1,0 +1,2 @@
+-- The numbers that the small Stirling numbers are read from.
+pub mod Inner
