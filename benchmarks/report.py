@@ -116,11 +116,11 @@ say("Method. `benchmarks/measure.c` calls the library (`rt staticlib exports`) a
 say("## Targets", "")
 targets()
 say("", "Why, by the profile:", "",
-    "- Ranks of subsets and set partitions, as paper 01 asks, call themselves on the shorter object for each place. The compiler hands the shorter",
-    "  slice on through memory and makes no loop of the calls, so that each place waits for the one before.",
-    "- The plain tables are built beforehand and have every number ready. The library has none: a coefficient is two products and a shift out of three",
-    "  literals, Stirling numbers are worked out once a call (UNRANK twice: question 8 asks for the count), and a partition number is cut out of three",
-    "  that share 64 bits; an odd column takes two of them.",
+    "- UNRANK of subsets calls itself on the shorter object for each place. The compiler hands the shorter slice on through memory and makes no loop of",
+    "  the calls. Where an array is lent whole, as in RANK of subsets and set partitions, it does.",
+    "- The plain tables are built beforehand and have every number ready. Here a coefficient is two products and a shift out of three literals, 24",
+    "  instructions; UNRANK of subsets asks for one at each number that it passes. Above 26 models Stirling numbers are worked out once a call, a band of up to",
+    "  525, and UNRANK works out the count besides, for question 8. A partition number is cut out of three that share 64 bits; an odd column takes two.",
     "- A Dyck word is read by two functions that call each other, as paper 01 asks, where the plain test is a loop.",
     "- Ranks of permutations and anagrams take a division or two for each place; SymPy's ranks of permutations are its fastest.",
     "- COUNT of subsets reads the constant table that paper 01 asks for. The compiler writes its 2,346 numbers out on the stack where it is used, once a",

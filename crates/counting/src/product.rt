@@ -32,10 +32,15 @@ pub fn within_places(counts: &[u8]) -> bool
     true
 }
 
-// x * y, or too large.
+// x * y, or too large. For two numbers of 32 bits it takes no division to tell.
 fn times(x: u64, y: u64) -> Count
     ensures { λ r. ⌜ r ≡ fits (x * y) ⌝ }
 {
+    if x < 4294967296 {
+        if y < 4294967296 {
+            return Count::Exactly(x * y);
+        }
+    }
     if y == 0 {
         return Count::Exactly(0);
     }

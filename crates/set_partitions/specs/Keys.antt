@@ -1,7 +1,7 @@
 -- What the key of the last model says, of a partition into k + 1 blocks, and where a rank comes among the keys in their order.
 -- Assumes nothing.
 use mathlib.Core.Path.{_≡_}
-use Prim.Native.Nat.{ℕ, zero, suc, _+_, _-_, _*_, _<_}
+use Prim.Native.Nat.{ℕ, zero, suc, _+_, _*_, _<_}
 use lib.ListN.{length, take, drop}
 use Rattle.listings.specs.Bytes.{Bytes}
 use Rattle.listings.specs.Places.{At}

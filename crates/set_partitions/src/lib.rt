@@ -31,7 +31,7 @@ use listings::fill_with;
 use search::block_to_lower;
 use search::block_to_raise;
 use search::keys_of;
-use stirling_rows::entry;
+use stirling_rows::both;
 use stirlings::CAPACITY;
 use stirlings::fill;
 
@@ -138,7 +138,8 @@ fn rank_of_few(n: usize, k: u64, keys: &[u8; 80]) -> u64
     }
     let end = n - 1;
     let key = keys[end] as u64;
-    let before = earlier(key, entry(end as u64, k - 1), entry(end as u64, k));
+    let numbers = both(end as u64, k);
+    let before = earlier(key, numbers.0, numbers.1);
     before + rank_of_few(end, others_in(k, key), keys)
 }
 
@@ -189,7 +190,8 @@ fn write_few(n: usize, k: u64, rank: u64, blocks: &mut [u8; 80])
         return;
     }
     let end = n - 1;
-    let last = place_at(rank, entry(end as u64, k - 1), entry(end as u64, k));
+    let numbers = both(end as u64, k);
+    let last = place_at(rank, numbers.0, numbers.1);
     let key = last.0;
     blocks[end] = block_of(k, key);
     write_few(end, others_in(k, key), last.1, blocks);

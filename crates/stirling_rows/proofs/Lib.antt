@@ -1,2 +1,3 @@
--- The test of the stored numbers.
+-- The test of the stored numbers, and the ends of the rows.
+pub mod Ends
 pub mod Tested

@@ -68,6 +68,17 @@ below n k h b =
     let z : 0 + n ≡ n = zero-add n in
     read n k (ap (λ (i : ℕ). right i k (stirlingOf i k)) (sym z) ∙ every (λ k. k) stirlingOf stirling-weighted right 81 0 (ap (tests (λ k. k) right 81 0) start ∙ tested) n k (omega arith) (omega arith))
 
+-- the rows to 26 are below it
+
+all-small : tests (λ k. k) (λ n k c. ltb c (2 ^ 64)) 27 0 (1 ∷ []) ≡ true
+unfolding tests holds step
+all-small = refl
+
+pub small : (n k : ℕ) → n ≤ 26 → k ≤ n → ltb (stirlingOf n k) (2 ^ 64) ≡ true
+small n k h b =
+    ap (λ (i : ℕ). ltb (stirlingOf i k) (2 ^ 64)) (sym (zero-add n))
+    ∙ every (λ k. k) stirlingOf stirling-weighted (λ n k c. ltb c (2 ^ 64)) 27 0 (ap (tests (λ k. k) (λ n k c. ltb c (2 ^ 64)) 27 0) start ∙ all-small) n k (omega arith) (omega arith)
+
 -- rows that have one limit: m of them from row a on
 unfoldable pub run : ℕ → ℕ → ℕ → Bool
 run a zero v = true

@@ -45,6 +45,9 @@ pub fn stirling_fits(n: u64, k: u64) -> bool
     requires { ⌜ n ≤ places ⌝ }
     ensures { λ r. ⌜ r ≡ ltb (stirlingOf n k) (2 ^ 64) ⌝ }
 {
+    if n <= 26 {
+        return true;
+    }
     if n < k {
         return true;
     }

@@ -1,12 +1,12 @@
 -- `set_partitions::rank_of` meets its contract: through the rank of the others, of which there is one fewer.
 -- Assumes nothing.
 use mathlib.Core.Path.{_≡_, _∙_, ap, ap₂, subst}
-use Prim.Native.Nat.{ℕ, _+_, _-_, _≤_, _<_, _^_}
+use Prim.Native.Nat.{ℕ, _+_, _-_, _<_}
 use native.Mathlib.Omega.{arith}
 use lib.ListN.{take, getD}
 use Rattle.numbers.specs.Numbers.{stirlingOf}
 use Rattle.set_partitions.specs.Objects.{KeysOf}
-use Rattle.set_partitions.specs.Keys.{earlierBy, othersIn}
+use Rattle.set_partitions.specs.Keys.{earlierBy}
 use Rattle.stirlings.specs.Band.{Reaches}
 use borrow.Author.Needs.{needs}
 use Rattle.set_partitions.proofs.Ranking.{rankOf, RankBy, no-other, Ending, at-end, the-others, summed}

@@ -1,11 +1,11 @@
 -- `set_partitions::write_few` meets its contract: the last model by the rank, and the others by what is left of it.
 -- Assumes nothing.
-use mathlib.Core.Path.{_≡_, sym, _∙_, ap, subst, subst₂}
-use Prim.Native.Nat.{ℕ, suc, _+_, _-_, _≤_, _<_}
+use mathlib.Core.Path.{subst₂}
+use Prim.Native.Nat.{ℕ, _-_, _<_}
 use native.Mathlib.Omega.{arith}
-use lib.ListN.{length, getD, set}
+use lib.ListN.{set}
 use Rattle.numbers.specs.Numbers.{stirlingOf}
-use Rattle.set_partitions.specs.Keys.{othersIn, blockOf, Placed, Written}
+use Rattle.set_partitions.specs.Keys.{Placed, Written}
 use Rattle.set_partitions.proofs.Unranking.{alone-written, Split, split-last, upto, rest-below, rest-less, written, places-there, still-alone}
 use borrow.Fn.Kinds.{In}
 use borrow.Fn.PlainCycle.{Measures, is, falls, and}
@@ -15,7 +15,7 @@ use Rattle.set_partitions.proofs.+write_few.Lts-write_few as write-few-
 use Rattle.set_partitions.proofs.last_key.block_of.Reads as block-of-reads
 use Rattle.set_partitions.proofs.last_key.others_in.Reads as others-in-reads
 use Rattle.set_partitions.proofs.last_key.place_at.Reads as place-at-reads
-use Rattle.stirling_rows.proofs.entry.Reads as entry-reads
+use Rattle.stirling_rows.proofs.both.Reads as both-reads
 use Rattle.set_partitions.proofs.+write_few.{statement}
 use Rattle.set_partitions.proofs.+write_few.Tie.{close}
 
@@ -31,19 +31,19 @@ write-few-below t =
 
 -- fewer blocks than models, and where the rank comes among the keys
 
-split-here : (t : ℕ) (c : write-few-lts.Else1 (entry-reads.Asked, entry-reads.Learnt, place-at-reads.Asked, place-at-reads.Learnt, block-of-reads.Asked, block-of-reads.Learnt, others-in-reads.Asked, others-in-reads.Learnt, write-few-below t, write-few.Post) (write-few-at t) write-few.Post) → let a = c .before .args in Split (a .n) (a .k) (a .rank)
+split-here : (t : ℕ) (c : write-few-lts.Else1 (both-reads.Asked, both-reads.Learnt, place-at-reads.Asked, place-at-reads.Learnt, block-of-reads.Asked, block-of-reads.Learnt, others-in-reads.Asked, others-in-reads.Learnt, write-few-below t, write-few.Post) (write-few-at t) write-few.Post) → let a = c .before .args in Split (a .n) (a .k) (a .rank)
 split-here t c = let a = c .before .args in split-last (a .n) (a .k) (a .rank) (c .if1 .left) (c .before .pre .1 .1 .0 .0)
 
-module _ (t : ℕ) (c : write-few-lts.After-place-at (entry-reads.Asked, entry-reads.Learnt, place-at-reads.Asked, place-at-reads.Learnt, block-of-reads.Asked, block-of-reads.Learnt, others-in-reads.Asked, others-in-reads.Learnt, write-few-below t, write-few.Post) (write-few-at t) write-few.Post) where
-  placed : let a = c .before .before .before .before .args in Placed (a .rank) (stirlingOf (a .n - 1) (a .k - 1)) (stirlingOf (a .n - 1) (a .k)) (c .place-at .result .0) (c .place-at .result .1)
-  placed = let a = c .before .before .before .before .args in subst₂ (λ s j. Placed (a .rank) s j (c .place-at .result .0) (c .place-at .result .1)) (c .before .before .entry .ensures) (c .before .entry2 .ensures) (c .place-at .ensures)
+module _ (t : ℕ) (c : write-few-lts.After-place-at (both-reads.Asked, both-reads.Learnt, place-at-reads.Asked, place-at-reads.Learnt, block-of-reads.Asked, block-of-reads.Learnt, others-in-reads.Asked, others-in-reads.Learnt, write-few-below t, write-few.Post) (write-few-at t) write-few.Post) where
+  placed : let a = c .before .before .before .args in Placed (a .rank) (stirlingOf (a .n - 1) (a .k - 1)) (stirlingOf (a .n - 1) (a .k)) (c .place-at .result .0) (c .place-at .result .1)
+  placed = let a = c .before .before .before .args in subst₂ (λ s j. Placed (a .rank) s j (c .place-at .result .0) (c .place-at .result .1)) (c .before .both .ensures .0) (c .before .both .ensures .1) (c .place-at .ensures)
 
-  some : 0 < c .before .before .before .before .args .n
-  some = omega (arith, c .before .before .before .if1 .left)
+  some : 0 < c .before .before .before .args .n
+  some = omega (arith, c .before .before .if1 .left)
 
 write-few-returns : (t : ℕ) → write-few-lts.Need-returns (
-  entry-reads.Asked,
-  entry-reads.Learnt,
+  both-reads.Asked,
+  both-reads.Learnt,
   place-at-reads.Asked,
   place-at-reads.Learnt,
   block-of-reads.Asked,
@@ -56,8 +56,8 @@ write-few-returns : (t : ℕ) → write-few-lts.Need-returns (
 write-few-returns t c = let a = c .before .args in alone-written (a .n) (a .k) (a .rank) (a .blocks .now) (c .if1 .taken) (c .before .pre .1 .1 .0 .0) (c .before .pre .1 .1 .1)
 
 write-few-sub-end : (t : ℕ) → write-few-lts.Need-sub-end (
-  entry-reads.Asked,
-  entry-reads.Learnt,
+  both-reads.Asked,
+  both-reads.Learnt,
   place-at-reads.Asked,
   place-at-reads.Learnt,
   block-of-reads.Asked,
@@ -69,9 +69,9 @@ write-few-sub-end : (t : ℕ) → write-few-lts.Need-sub-end (
 ) (write-few-at t) write-few.Post
 write-few-sub-end t c = omega (arith, c .if1 .left)
 
-write-few-sub-entry : (t : ℕ) → write-few-lts.Need-sub-entry (
-  entry-reads.Asked,
-  entry-reads.Learnt,
+write-few-both-requires : (t : ℕ) → write-few-lts.Need-both-requires (
+  both-reads.Asked,
+  both-reads.Learnt,
   place-at-reads.Asked,
   place-at-reads.Learnt,
   block-of-reads.Asked,
@@ -81,39 +81,11 @@ write-few-sub-entry : (t : ℕ) → write-few-lts.Need-sub-entry (
   write-few-below t,
   write-few.Post,
 ) (write-few-at t) write-few.Post
-write-few-sub-entry t c = split-here t c .some
-
-write-few-entry-requires : (t : ℕ) → write-few-lts.Need-entry-requires (
-  entry-reads.Asked,
-  entry-reads.Learnt,
-  place-at-reads.Asked,
-  place-at-reads.Learnt,
-  block-of-reads.Asked,
-  block-of-reads.Learnt,
-  others-in-reads.Asked,
-  others-in-reads.Learnt,
-  write-few-below t,
-  write-few.Post,
-) (write-few-at t) write-few.Post
-write-few-entry-requires t c κs = omega arith
-
-write-few-entry-requires-2 : (t : ℕ) → write-few-lts.Need-entry-requires-2 (
-  entry-reads.Asked,
-  entry-reads.Learnt,
-  place-at-reads.Asked,
-  place-at-reads.Learnt,
-  block-of-reads.Asked,
-  block-of-reads.Learnt,
-  others-in-reads.Asked,
-  others-in-reads.Learnt,
-  write-few-below t,
-  write-few.Post,
-) (write-few-at t) write-few.Post
-write-few-entry-requires-2 t c κs = omega arith
+write-few-both-requires t c κs = (omega arith, (split-here t c .some, omega (arith, c .if1 .left)))
 
 write-few-place-at-requires : (t : ℕ) → write-few-lts.Need-place-at-requires (
-  entry-reads.Asked,
-  entry-reads.Learnt,
+  both-reads.Asked,
+  both-reads.Learnt,
   place-at-reads.Asked,
   place-at-reads.Learnt,
   block-of-reads.Asked,
@@ -123,11 +95,11 @@ write-few-place-at-requires : (t : ℕ) → write-few-lts.Need-place-at-requires
   write-few-below t,
   write-few.Post,
 ) (write-few-at t) write-few.Post
-write-few-place-at-requires t c κs = (omega (arith, split-here t (c .before .before) .joined, c .entry2 .ensures), c .before .before .before .pre .1 .1 .0 .1)
+write-few-place-at-requires t c κs = (omega (arith, split-here t (c .before) .joined, c .both .ensures .1), c .before .before .pre .1 .1 .0 .1)
 
 write-few-block-of-requires : (t : ℕ) → write-few-lts.Need-block-of-requires (
-  entry-reads.Asked,
-  entry-reads.Learnt,
+  both-reads.Asked,
+  both-reads.Learnt,
   place-at-reads.Asked,
   place-at-reads.Learnt,
   block-of-reads.Asked,
@@ -137,11 +109,11 @@ write-few-block-of-requires : (t : ℕ) → write-few-lts.Need-block-of-requires
   write-few-below t,
   write-few.Post,
 ) (write-few-at t) write-few.Post
-write-few-block-of-requires t c κs = let a = c .before .before .before .before .args in let p = split-here t (c .before .before .before) in (p .some, (omega (arith, c .before .before .before .if1 .left), upto (a .n) (a .k) (a .rank) _ _ (some t c) p (placed t c)))
+write-few-block-of-requires t c κs = let a = c .before .before .before .args in let p = split-here t (c .before .before) in (p .some, (omega (arith, c .before .before .if1 .left), upto (a .n) (a .k) (a .rank) _ _ (some t c) p (placed t c)))
 
 write-few-element-write-blocks : (t : ℕ) → write-few-lts.Need-element-write-blocks (
-  entry-reads.Asked,
-  entry-reads.Learnt,
+  both-reads.Asked,
+  both-reads.Learnt,
   place-at-reads.Asked,
   place-at-reads.Learnt,
   block-of-reads.Asked,
@@ -154,8 +126,8 @@ write-few-element-write-blocks : (t : ℕ) → write-few-lts.Need-element-write-
 write-few-element-write-blocks t c = omega arith
 
 write-few-others-in-requires : (t : ℕ) → write-few-lts.Need-others-in-requires (
-  entry-reads.Asked,
-  entry-reads.Learnt,
+  both-reads.Asked,
+  both-reads.Learnt,
   place-at-reads.Asked,
   place-at-reads.Learnt,
   block-of-reads.Asked,
@@ -165,11 +137,11 @@ write-few-others-in-requires : (t : ℕ) → write-few-lts.Need-others-in-requir
   write-few-below t,
   write-few.Post,
 ) (write-few-at t) write-few.Post
-write-few-others-in-requires t c κs = split-here t (c .before .before .before .before) .some
+write-few-others-in-requires t c κs = split-here t (c .before .before .before) .some
 
 write-few-write-few-requires : (t : ℕ) → write-few-lts.Need-write-few-requires (
-  entry-reads.Asked,
-  entry-reads.Learnt,
+  both-reads.Asked,
+  both-reads.Learnt,
   place-at-reads.Asked,
   place-at-reads.Learnt,
   block-of-reads.Asked,
@@ -180,14 +152,15 @@ write-few-write-few-requires : (t : ℕ) → write-few-lts.Need-write-few-requir
   write-few.Post,
 ) (write-few-at t) write-few.Post
 write-few-write-few-requires t c κs =
-    let a = c .before .before .before .before .before .before .before .args in
-    let q = c .before .before .before .before .before .before .before .pre in
+    let a = c .before .before .before .before .before .before .args in
+    let q = c .before .before .before .before .before .before .pre in
     let e = c .before .before .before in
-    (omega (arith, some t e, q .0), (omega (arith, q .1 .0), ((rw (c .before .others-in .ensures) (rest-below (a .n) (a .k) (a .rank) _ _ (some t e) (split-here t (c .before .before .before .before .before .before)) (placed t e)), omega (arith, rest-less (a .n) (a .k) (a .rank) _ _ (some t e) (split-here t (c .before .before .before .before .before .before)) (placed t e), q .1 .1 .0 .1)), still-alone (a .n) (c .before .before .block-of .result) (a .blocks .now) (some t e) (q .1 .1 .1))))
+    let p = split-here t (c .before .before .before .before .before) in
+    (omega (arith, some t e, q .0), (omega (arith, q .1 .0), ((rw (c .before .others-in .ensures) (rest-below (a .n) (a .k) (a .rank) _ _ (some t e) p (placed t e)), omega (arith, rest-less (a .n) (a .k) (a .rank) _ _ (some t e) p (placed t e), q .1 .1 .0 .1)), still-alone (a .n) (c .before .before .block-of .result) (a .blocks .now) (some t e) (q .1 .1 .1))))
 
 write-few-returns-2 : (t : ℕ) → write-few-lts.Need-returns-2 (
-  entry-reads.Asked,
-  entry-reads.Learnt,
+  both-reads.Asked,
+  both-reads.Learnt,
   place-at-reads.Asked,
   place-at-reads.Learnt,
   block-of-reads.Asked,
@@ -198,16 +171,16 @@ write-few-returns-2 : (t : ℕ) → write-few-lts.Need-returns-2 (
   write-few.Post,
 ) (write-few-at t) write-few.Post
 write-few-returns-2 t c =
-    let a = c .before .before .before .before .before .before .before .before .args in
+    let a = c .before .before .before .before .before .before .before .args in
     let e = c .before .before .before .before in
     let y = c .write-few .last .1 .1 .1 .0 in
-    written (a .n) (a .k) (a .rank) _ (e .place-at .result .1) (some t e) (split-here t (c .before .before .before .before .before .before .before)) (placed t e) (a .blocks .now) y (places-there (a .n) (a .blocks .now) (c .before .before .before .before .before .before .before .before .pre .1 .1 .1))
+    written (a .n) (a .k) (a .rank) _ (e .place-at .result .1) (some t e) (split-here t (c .before .before .before .before .before .before)) (placed t e) (a .blocks .now) y (places-there (a .n) (a .blocks .now) (c .before .before .before .before .before .before .before .pre .1 .1 .1))
     (subst₂ (λ j v. Written (a .n - 1) j (e .place-at .result .1) (set (a .blocks .now) (a .n - 1) v) y) (c .before .before .others-in .ensures) (c .before .before .before .block-of .ensures) (c .write-few .ensures))
 
 pub +write-few-spec : {M : Type 1} → statement M
 +write-few-spec = close μ-write-few λ t. write-few-lts.spec (
-  entry-reads.Asked,
-  entry-reads.Learnt,
+  both-reads.Asked,
+  both-reads.Learnt,
   place-at-reads.Asked,
   place-at-reads.Learnt,
   block-of-reads.Asked,
@@ -221,9 +194,7 @@ pub +write-few-spec : {M : Type 1} → statement M
     write-few.Post
     (write-few-returns t)
     (write-few-sub-end t)
-    (write-few-sub-entry t)
-    (write-few-entry-requires t)
-    (write-few-entry-requires-2 t)
+    (write-few-both-requires t)
     (write-few-place-at-requires t)
     (write-few-block-of-requires t)
     (write-few-element-write-blocks t)

@@ -1,11 +1,11 @@
 -- `set_partitions::write_many` meets its contract: the last model by the rank, and the others by what is left of it.
 -- Assumes nothing.
-use mathlib.Core.Path.{_≡_, sym, _∙_, ap, subst, subst₂}
-use Prim.Native.Nat.{ℕ, suc, _+_, _-_, _≤_, _<_}
+use mathlib.Core.Path.{subst₂}
+use Prim.Native.Nat.{ℕ, _-_, _<_}
 use native.Mathlib.Omega.{arith}
-use lib.ListN.{length, getD, set}
+use lib.ListN.{set}
 use Rattle.numbers.specs.Numbers.{stirlingOf}
-use Rattle.set_partitions.specs.Keys.{othersIn, blockOf, Placed, Written}
+use Rattle.set_partitions.specs.Keys.{Placed, Written}
 use Rattle.set_partitions.proofs.Unranking.{alone-written, Split, split-last, upto, rest-below, rest-less, written, places-there, still-alone}
 use Rattle.stirlings.specs.Band.{Reaches}
 use borrow.Author.Needs.{needs}

@@ -1,7 +1,7 @@
 -- `set_partitions::rank` meets its contract: there is a key for each model, and the band ends with the number of all partitions.
 -- Assumes nothing.
 use mathlib.Core.Path.{refl}
-use Prim.Native.Nat.{_+_, _≤_}
+use Prim.Native.Nat.{_+_}
 use native.Mathlib.Omega.{arith}
 use lib.ListN.{length}
 use Rattle.stirlings.specs.Band.{capacity}

@@ -1,17 +1,11 @@
 -- `set_partitions::unrank` meets its contract: what is copied is the partition of the rank, and the band ends with the number of all.
 -- Assumes nothing.
-use mathlib.Core.Path.{_≡_, refl, sym, _∙_, ap, subst}
-use Prim.Native.Nat.{ℕ, _+_, _≤_}
+use mathlib.Core.Path.{refl, sym}
+use Prim.Native.Nat.{_+_}
 use native.Mathlib.Omega.{arith}
-use lib.ListN.{length, take}
-use lib.Seq.{length-take-le}
-use Rattle.numbers.specs.Limits.{places}
-use Rattle.numbers.specs.Sums.{range}
-use Rattle.numbers.proofs.Ranges.{length-range}
-use Rattle.listings.specs.Bytes.{Bytes}
+use lib.ListN.{length}
 use Rattle.stirlings.specs.Band.{capacity}
 use Rattle.stirlings.proofs.Walk.{ones, whole}
-use Rattle.set_partitions.specs.Keys.{Written}
 use Rattle.set_partitions.proofs.Unranking.{few-where-some, first-alone, enough, cut}
 use borrow.Author.Needs.{needs}
 use Rattle.set_partitions.proofs.unrank.Statement.{statement}

@@ -1,26 +1,15 @@
 -- `stirling_rows::entry` meets its contract: the ends of a row by their laws, and the others by the test.
 -- Assumes nothing.
-use mathlib.Core.Path.{_≡_, sym, _∙_, ap}
-use Prim.Native.Nat.{ℕ, zero, suc, _*_, _-_, _≤_, _<_}
-use native.Mathlib.Nat.{mul-le-mul}
+use mathlib.Core.Path.{sym, _∙_, ap}
+use Prim.Native.Nat.{_<_}
 use native.Mathlib.Omega.{arith}
 use borrow.Author.Needs.{needs}
 use Rattle.numbers.specs.Numbers.{stirlingOf}
-use Rattle.numbers.proofs.Stirlings.{stirling-all, stirling-none, stirling-zero, stirling-one}
+use Rattle.numbers.proofs.Stirlings.{stirling-all, stirling-none}
+use Rattle.stirling_rows.proofs.Ends.{short, few-places}
 use Rattle.stirling_rows.proofs.Tested.{there}
 use Rattle.stirling_rows.proofs.entry.Statement.{statement}
 use Rattle.stirling_rows.proofs.entry.Tie as tie
-
-no-more : (n : ℕ) → n ≤ 26 → (n - 2) * (n - 3) ≤ 24 * 23
-no-more n h =
-    let a : n - 2 ≤ 24 = omega arith in
-    let b : n - 3 ≤ 23 = omega arith in
-    mul-le-mul a b
-
-short : (n k : ℕ) → k < 2 → k < n → k ≡ stirlingOf n k
-short n zero few fewer = sym (stirling-zero n (omega arith))
-short n (suc zero) few fewer = sym (stirling-one n (omega arith))
-short n (suc (suc k)) few fewer = absurd (omega arith)
 
 fewer : (c : tie.Else3) → c .before .before .before .args .k < c .before .before .before .args .n
 fewer c = omega (arith, c .before .before .if1 .left)
@@ -41,10 +30,10 @@ sub-number-2 : tie.Need-sub-number-2
 sub-number-2 c = omega (arith, fewer c)
 
 mul-number : tie.Need-mul-number
-mul-number c = omega (arith, no-more (c .before .before .before .args .n) (omega arith))
+mul-number c = omega (arith, few-places (c .before .before .before .args .n) (omega arith))
 
 add-number : tie.Need-add-number
-add-number c = omega (arith, fewer c, no-more (c .before .before .before .args .n) (omega arith))
+add-number c = omega (arith, fewer c, few-places (c .before .before .before .args .n) (omega arith))
 
 sub-number-3 : tie.Need-sub-number-3
 sub-number-3 c = omega arith

@@ -1,8 +1,8 @@
--- `counting::product::times` meets its contract. The test by division is the test whether the product fits.
+-- `counting::product::times` meets its contract. Two numbers of 32 bits fit; else the test by division is the test whether the product fits.
 -- Assumes nothing.
 use mathlib.Core.Path.{_≡_, sym, _∙_, ap}
 use Prim.Native.Nat.{ℕ, _*_, _/_, _≤_, _<_, _^_}
-use native.Mathlib.Nat.{mul-zero, le-div-iff-mul-le, div-lt-iff-lt-mul}
+use native.Mathlib.Nat.{mul-zero, mul-le-mul, le-div-iff-mul-le, div-lt-iff-lt-mul}
 use native.Mathlib.Omega.{arith}
 use borrow.Author.Needs.{needs}
 use Rattle.counting.specs.Answers.{fits}
@@ -10,26 +10,38 @@ use Rattle.counting.proofs.Answers.{fits-small, fits-large}
 use Rattle.counting.proofs.product.times.Statement.{statement}
 use Rattle.counting.proofs.product.times.Tie as tie
 
+halves : (x y : ℕ) → x < 4294967296 → y < 4294967296 → x * y < 2 ^ 64
+halves x y h k =
+    let m : x ≤ 4294967295 = omega arith in
+    let n : y ≤ 4294967295 = omega arith in
+    omega (arith, mul-le-mul m n)
+
 small : (x y : ℕ) → (y ≡ 0 → ⊥) → x ≤ 18446744073709551615 / y → x * y < 2 ^ 64
 small x y pos h = omega (arith, le-div-iff-mul-le {k = y} (omega arith) .0 h)
 
 large : (x y : ℕ) → (y ≡ 0 → ⊥) → 18446744073709551615 / y < x → 2 ^ 64 ≤ x * y
 large x y pos h = omega (arith, div-lt-iff-lt-mul {k = y} (omega arith) .0 h)
 
-returns : tie.Need-returns
-returns c = sym (ap fits (rw (c .if1 .taken) (mul-zero (c .before .args .x))) ∙ fits-small 0 (omega arith))
-
-div-if2 : tie.Need-div-if2
-div-if2 c = search needs
-
 mul-t5 : tie.Need-mul-t5
-mul-t5 c = record { fits = small _ _ (c .before .if1 .left) (c .if2 .taken) }
+mul-t5 c = record { fits = halves _ _ (c .before .if1 .taken) (c .if2 .taken) }
+
+returns : tie.Need-returns
+returns c = sym (fits-small _ (halves _ _ (c .before .if1 .taken) (c .if2 .taken)))
 
 returns-2 : tie.Need-returns-2
-returns-2 c = sym (fits-small _ (small _ _ (c .before .if1 .left) (c .if2 .taken)))
+returns-2 c = sym (ap fits (rw (c .if3 .taken) (mul-zero (c .before .before .args .x))) ∙ fits-small 0 (omega arith))
+
+div-if4 : tie.Need-div-if4
+div-if4 c = search needs
+
+mul-t7 : tie.Need-mul-t7
+mul-t7 c = record { fits = small _ _ (c .before .if3 .left) (c .if4 .taken) }
 
 returns-3 : tie.Need-returns-3
-returns-3 c = sym (fits-large _ (large _ _ (c .before .if1 .left) (c .if2 .left)))
+returns-3 c = sym (fits-small _ (small _ _ (c .before .if3 .left) (c .if4 .taken)))
+
+returns-4 : tie.Need-returns-4
+returns-4 c = sym (fits-large _ (large _ _ (c .before .if3 .left) (c .if4 .left)))
 
 pub times-spec : {M : Type 1} → statement M
-times-spec = tie.close (tie.spec returns div-if2 mul-t5 returns-2 returns-3)
+times-spec = tie.close (tie.spec mul-t5 returns returns-2 div-if4 mul-t7 returns-3 returns-4)
