@@ -52,10 +52,7 @@ pub fn coefficient(n: u64, k: u64) -> Count
     if PLACES < k {
         return Count::Outside;
     }
-    if !binomials::coefficient_fits(n, k) {
-        return Count::TooLarge;
-    }
-    Count::Exactly(binomials::coefficient(n, k))
+    product::ways_out_of(n, k)
 }
 
 // Kind 2: anagrams, letter i as often as counts[i] says.

@@ -4,11 +4,12 @@ ghost use lib.Dec.{leb};
 ghost use Prim.Native.Nat.{_≤_, _*_};
 ghost use Rattle.numbers.specs.Limits.{places};
 ghost use Rattle.numbers.specs.Sums.{total};
-ghost use Rattle.numbers.specs.Numbers.{multinomialOf};
+ghost use Rattle.numbers.specs.Numbers.{choose, multinomialOf};
 ghost use Rattle.counting.specs.Answers.{fits};
 use crate::Count;
 use crate::PLACES;
-use crate::coefficient;
+use binomials::coefficient;
+use binomials::coefficient_fits;
 
 fn wide(b: u8) -> u64
     ensures { λ r. ⌜ r ≡ b ⌝ }
@@ -30,6 +31,17 @@ pub fn within_places(counts: &[u8]) -> bool
         i += 1;
     }
     true
+}
+
+// k out of n, exactly or too large.
+pub fn ways_out_of(n: u64, k: u64) -> Count
+    requires { ⌜ n ≤ places ⌝ }
+    ensures { λ r. ⌜ r ≡ fits (choose n k) ⌝ }
+{
+    if !coefficient_fits(n, k) {
+        return Count::TooLarge;
+    }
+    Count::Exactly(coefficient(n, k))
 }
 
 // x * y, or too large. For two numbers of 32 bits it takes no division to tell.
@@ -62,7 +74,7 @@ pub fn of_binomials(counts: &[u8]) -> Count
         i -= 1;
         let c = wide(counts[i]);
         length += c;
-        let Count::Exactly(ways) = coefficient(length, c) else {
+        let Count::Exactly(ways) = ways_out_of(length, c) else {
             return Count::TooLarge;
         };
         let Count::Exactly(more) = times(words, ways) else {

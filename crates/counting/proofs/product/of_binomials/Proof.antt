@@ -2,14 +2,12 @@
 -- Assumes nothing.
 use mathlib.Core.Path.{_≡_, sym, _∙_, ap}
 use mathlib.Core.Logic.{⊎-elim}
-use mathlib.Core.Bool.{_&&_}
 use mathlib.Core.List.{List, [], _∷_}
 use Prim.Native.Nat.{ℕ, suc, _+_, _*_, _≤_, _<_, _-_, _^_}
 use native.Mathlib.Nat.{le-refl, add-comm, mul-comm}
 use native.Mathlib.Omega.{arith}
 use lib.ListN.{length, getD, drop}
 use lib.Seq.{drop-cons, drop-length}
-use lib.Dec.{leb}
 use types.Run.{OneOf}
 use denote.Enum.Declared.{tagOf}
 use borrow.Author.Needs.{needs}
@@ -18,9 +16,9 @@ use Rattle.numbers.specs.Sums.{total}
 use Rattle.numbers.specs.Numbers.{choose, multinomialOf}
 use Rattle.counting.specs.declared.Count.{Count}
 use Rattle.counting.specs.declared.Count.the-variants.{Exactly, TooLarge}
-use Rattle.counting.specs.Answers.{fits, within}
+use Rattle.counting.specs.Answers.{fits}
 use Rattle.counting.proofs.Count.{the-type}
-use Rattle.counting.proofs.Answers.{answered, exactly, fits-small, fits-large, within-in, both-in}
+use Rattle.counting.proofs.Answers.{answered, exactly, fits-small, fits-large}
 use Rattle.numbers.proofs.Multinomials.{drop-le, head-le}
 use Rattle.numbers.proofs.Totals.{total-drop-le}
 use Rattle.counting.proofs.product.of_binomials.Statement.{statement}
@@ -41,8 +39,8 @@ start : (cs : List ℕ) → Words cs 1 0 (length cs)
 unfolding multinomialOf total
 start cs = record { some = le-refl _; answer = rw drop-length (sym (fits-small 1 (omega arith))); long = rw drop-length }
 
--- one letter more, with x places, and the answer r of the binomial
-module _ {cs : List ℕ} {words size i x : ℕ} {r : Count} (c : Words cs words size i) (limit : total cs ≤ places) (pos : 0 < i) (e : x ≡ getD cs (i - 1) 0) (b : r ≡ within (leb (size + x) places && leb x places) (fits (choose (size + x) x))) where
+-- one letter more, with x places
+module _ {cs : List ℕ} {words size i x : ℕ} (c : Words cs words size i) (limit : total cs ≤ places) (pos : 0 < i) (e : x ≡ getD cs (i - 1) 0) where
   next : drop (i - 1) cs ≡ x ∷ drop i cs
   next = let s : suc (i - 1) ≡ i = omega arith in rw (drop-cons cs (i - 1) 0 (omega arith), s, e)
 
@@ -54,26 +52,25 @@ module _ {cs : List ℕ} {words size i x : ℕ} {r : Count} (c : Words cs words 
   unfolding multinomialOf
   more-words = rw (next, exactly _ _ (sym (c .answer)), ← c .long, add-comm size x, mul-comm words)
 
-  -- the binomial is asked within the limits
-  ways-answer : r ≡ fits (choose (size + x) x)
-  ways-answer =
-      let short : size + x ≤ places = omega (arith, longer, total-drop-le cs (i - 1)) in
-      b ∙ within-in _ _ (both-in (size + x) x places short (omega arith))
+  short : size + x ≤ places
+  short = omega (arith, longer, total-drop-le cs (i - 1))
 
+-- .. and with the answer r of the binomial
+module _ {cs : List ℕ} {words size i x : ℕ} {r : Count} (c : Words cs words size i) (limit : total cs ≤ places) (pos : 0 < i) (e : x ≡ getD cs (i - 1) 0) (b : r ≡ fits (choose (size + x) x)) where
   product-is : {ways : ℕ} → r ≡ Exactly ways → words * ways ≡ multinomialOf (drop (i - 1) cs)
-  product-is w = rw (exactly _ _ (sym ways-answer ∙ w)) at more-words
+  product-is w = rw (exactly _ _ (sym b ∙ w)) at (more-words c limit pos e)
 
   -- what passes 2^64 on the way, a factor or a product, is at most the whole count
   factor-stop : OneOf (1 ∷ 2 ∷ []) (tagOf the-type r) → TooLarge ≡ fits (multinomialOf cs)
   factor-stop keys =
-      let factor : choose (size + x) x ≤ multinomialOf (drop (i - 1) cs) = rw (next, c .long, add-comm _ x) (head-le x (drop i cs)) in
-      sym (fits-large _ (omega (arith, large _ ways-answer keys, drop-le cs (i - 1))))
+      let factor : choose (size + x) x ≤ multinomialOf (drop (i - 1) cs) = rw (next c limit pos e, c .long, add-comm _ x) (head-le x (drop i cs)) in
+      sym (fits-large _ (omega (arith, large _ b keys, drop-le cs (i - 1))))
 
   product-stop : {ways : ℕ} {p : Count} → r ≡ Exactly ways → p ≡ fits (words * ways) → OneOf (1 ∷ 2 ∷ []) (tagOf the-type p) → TooLarge ≡ fits (multinomialOf cs)
   product-stop w t keys = sym (fits-large _ (omega (arith, large _ t keys, product-is w, drop-le cs (i - 1))))
 
   turn : {ways more : ℕ} {p : Count} → r ≡ Exactly ways → p ≡ fits (words * ways) → p ≡ Exactly more → Words cs more (size + x) (i - 1)
-  turn w t m = record { some = omega arith; answer = sym m ∙ t ∙ ap fits (product-is w); long = longer }
+  turn w t m = record { some = omega arith; answer = sym m ∙ t ∙ ap fits (product-is w); long = longer c limit pos e }
 
 done : {cs : List ℕ} {words size i : ℕ} → Words cs words size i → i ≤ 0 → Exactly words ≡ fits (multinomialOf cs)
 done {i = i} c end = let z : i ≡ 0 = omega arith in rw z at (c .answer)
@@ -99,14 +96,14 @@ wide-requires c κs = tt
 add-length : tie.Need-add-length Inv-loop μ-loop
 add-length c = omega (arith, c .before .shared-slice-known2 .given (c .before .before .before .loop .i - 1), total-drop-le (c .before .before .before .before .before .args .counts .now) (c .before .before .before .loop .i))
 
-coefficient-requires : tie.Need-coefficient-requires Inv-loop μ-loop
-coefficient-requires c κs = tt
+ways-out-of-requires : tie.Need-ways-out-of-requires Inv-loop μ-loop
+ways-out-of-requires c κs = short (c .before .before .before .loop .inv) (c .before .before .before .before .before .pre) (c .before .before .loop-test .taken) (c .wide .ensures)
 
 enum-known-ways : tie.Need-enum-known-ways Inv-loop μ-loop
 enum-known-ways c = search needs
 
 returns : tie.Need-returns Inv-loop μ-loop
-returns c = factor-stop (c .before .before .before .before .before .loop .inv) (c .before .before .before .before .before .before .before .pre) (c .before .before .before .before .loop-test .taken) (c .before .before .wide .ensures) (c .before .coefficient .ensures) (c .match .keys2)
+returns c = factor-stop (c .before .before .before .before .before .loop .inv) (c .before .before .before .before .before .before .before .pre) (c .before .before .before .before .loop-test .taken) (c .before .before .wide .ensures) (c .before .ways-out-of .ensures) (c .match .keys2)
 
 times-requires : tie.Need-times-requires Inv-loop μ-loop
 times-requires c κs = tt
@@ -116,14 +113,14 @@ enum-known-more c = search needs
 
 returns-2 : tie.Need-returns-2 Inv-loop μ-loop
 returns-2 c =
-    product-stop (c .before .before .before .before .before .before .before .before .before .loop .inv) (c .before .before .before .before .before .before .before .before .before .before .before .pre) (c .before .before .before .before .before .before .before .before .loop-test .taken) (c .before .before .before .before .before .before .wide .ensures) (c .before .before .before .before .before .coefficient .ensures) (c .before .before .before .ways .given .1) (c .before .times .ensures) (c .match2 .keys2)
+    product-stop (c .before .before .before .before .before .before .before .before .before .loop .inv) (c .before .before .before .before .before .before .before .before .before .before .before .pre) (c .before .before .before .before .before .before .before .before .loop-test .taken) (c .before .before .before .before .before .before .wide .ensures) (c .before .before .before .before .before .ways-out-of .ensures) (c .before .before .before .ways .given .1) (c .before .times .ensures) (c .match2 .keys2)
 
 loop-less : tie.Need-loop-less Inv-loop μ-loop
 loop-less c = omega arith
 
 loop-again : tie.Need-loop-again Inv-loop μ-loop
 loop-again c =
-    turn (c .before .before .before .before .before .before .before .before .before .before .before .loop .inv) (c .before .before .before .before .before .before .before .before .before .before .before .before .before .pre) (c .before .before .before .before .before .before .before .before .before .before .loop-test .taken) (c .before .before .before .before .before .before .before .before .wide .ensures) (c .before .before .before .before .before .before .before .coefficient .ensures) (c .before .before .before .before .before .ways .given .1) (c .before .before .before .times .ensures) (c .before .more .given .1)
+    turn (c .before .before .before .before .before .before .before .before .before .before .before .loop .inv) (c .before .before .before .before .before .before .before .before .before .before .before .before .before .pre) (c .before .before .before .before .before .before .before .before .before .before .loop-test .taken) (c .before .before .before .before .before .before .before .before .wide .ensures) (c .before .before .before .before .before .before .before .ways-out-of .ensures) (c .before .before .before .before .before .ways .given .1) (c .before .before .before .times .ensures) (c .before .more .given .1)
 
 returns-3 : tie.Need-returns-3 Inv-loop μ-loop
 returns-3 c = done (c .before .loop .inv) (c .loop-test .left)
@@ -139,7 +136,7 @@ of-binomials-spec =
     shared-slice-read-wide
     wide-requires
     add-length
-    coefficient-requires
+    ways-out-of-requires
     enum-known-ways
     returns
     times-requires
