@@ -1,11 +1,9 @@
 -- The permutations, as anagrams with every letter once, are listed, n! of them, each of length n.
 -- Assumes nothing.
-use mathlib.Core.Path.{_≡_, refl, _∙_}
+use mathlib.Core.Path.{_≡_, _∙_}
 use mathlib.Core.Bool.{true}
-use Prim.Native.Nat.{ℕ, zero, suc}
-use native.Mathlib.Omega.{arith}
+use Prim.Native.Nat.{ℕ}
 use lib.ListN.{length}
-use Rattle.numbers.specs.Sums.{total}
 use Rattle.numbers.specs.Numbers.{factorialOf}
 use Rattle.numbers.proofs.Laws.{multinomial-ones, total-ones}
 use Rattle.listings.specs.Bytes.{Bytes}

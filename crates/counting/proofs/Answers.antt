@@ -76,6 +76,3 @@ first-out n k m h = rw (lt-leb n m h)
 
 pub second-out : (n k m : ℕ) → m < k → leb n m && leb k m ≡ false
 second-out n k m h = rw (lt-leb k m h) (and-false (leb n m))
-
-pub one-exactly : {v : ℕ} → v ≡ 1 → Exactly 1 ≡ fits v
-one-exactly {v} e = ap Exactly (sym e) ∙ sym (fits-small v (omega arith))

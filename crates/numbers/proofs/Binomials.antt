@@ -1,8 +1,8 @@
 -- The binomial coefficients: the addition rule, where they vanish, how they grow, and the two rules that take one element away.
 -- Assumes nothing.
-use mathlib.Core.Path.{_≡_, refl, sym, _∙_, ap}
+use mathlib.Core.Path.{_≡_, refl}
 use Prim.Native.Nat.{ℕ, zero, suc, _+_, _*_, _≤_, _<_}
-use native.Mathlib.Nat.{add-zero, zero-add, add-suc, mul-zero, one-mul, suc-mul, mul-add, add-mul, le-refl, le-trans, le-dest}
+use native.Mathlib.Nat.{add-zero, add-suc, mul-zero, one-mul, suc-mul, mul-add, add-mul, le-refl, le-trans, le-dest}
 use native.Mathlib.Omega.{arith}
 use Rattle.numbers.specs.Numbers.{choose}
 use Rattle.numbers.proofs.Weighted.{Weighted}
@@ -46,21 +46,6 @@ choose-add m (suc d) k = rw add-suc (le-trans (choose-add m d k) (choose-grows (
 
 pub choose-mono : {m n : ℕ} (k : ℕ) → m ≤ n → choose m k ≤ choose n k
 choose-mono {m} {n} k h = rw (le-dest h .1) at (choose-add m (le-dest h .0) k)
-
--- a set or what it leaves out: the row reads the same from both ends
-
-other-step : (i : ℕ) → ((j : ℕ) → choose (i + j) i ≡ choose (i + j) j) → (j : ℕ) → choose (suc i + j) (suc i) ≡ choose (suc i + j) j
-other-step i same zero = rw add-zero (choose-all (suc i) ∙ sym (choose-zero (suc i)))
-other-step i same (suc j) =
-    let m = i + suc j in
-    let up : suc i + suc j ≡ suc m = omega arith in
-    let on : suc i + j ≡ m = omega arith in
-    let left : choose m (suc i) ≡ choose m j = sym (ap (λ x. choose x (suc i)) on) ∙ other-step i same j ∙ ap (λ x. choose x j) on in
-    ap (λ x. choose x (suc i)) up ∙ omega (arith, pascal m i, pascal m j, same (suc j), left) ∙ sym (ap (λ x. choose x (suc j)) up)
-
-pub other-side : (i j : ℕ) → choose (i + j) i ≡ choose (i + j) j
-other-side zero j = choose-zero (0 + j) ∙ sym (ap (λ x. choose x j) (zero-add j) ∙ choose-all j)
-other-side (suc i) j = other-step i (other-side i) j
 
 -- the step of `absorb`, over plain numbers: a and b are above A = a + b and B in the triangle
 absorb-step : (n k a b B : ℕ) → suc k * (a + b) ≡ suc n * a → suc (suc k) * B ≡ suc n * b → suc (suc k) * (a + b + B) ≡ suc (suc n) * (a + b)

@@ -14,4 +14,3 @@ pub mod TriangleIndex
 pub mod Triangles
 pub mod Weighted
 pub mod WeightedTests
-pub mod Widths

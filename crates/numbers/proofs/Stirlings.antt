@@ -1,8 +1,8 @@
 -- Stirling numbers of the second kind: their recursion, where they are 0 and where not, and that they grow.
 -- Assumes nothing.
-use mathlib.Core.Path.{_≡_, refl, sym, _∙_, ap, ap₂}
-use Prim.Native.Nat.{ℕ, zero, suc, _+_, _-_, _*_, _/_, _%_, _≤_, _<_}
-use native.Mathlib.Nat.{suc-mul, zero-mul, mul-zero, mul-le-mul}
+use mathlib.Core.Path.{_≡_, refl, sym}
+use Prim.Native.Nat.{ℕ, zero, suc, _+_, _*_, _≤_, _<_}
+use native.Mathlib.Nat.{suc-mul, zero-mul, mul-zero}
 use native.Mathlib.Omega.{arith}
 use Rattle.numbers.specs.Numbers.{stirlingOf}
 use Rattle.numbers.proofs.Weighted.{Weighted}
@@ -52,22 +52,3 @@ stirling-one (suc (suc n)) pos = omega (arith, stirling-rule (suc n) 0, stirling
 pub stirling-all : (n : ℕ) → stirlingOf n n ≡ 1
 stirling-all zero = stirling-corner
 stirling-all (suc n) = rw (stirling-rule, stirling-none n (suc n) (omega arith), mul-zero) (omega (arith, stirling-all n))
-
--- between the ends of a row no number is 1
-pub stirling-more : (n k : ℕ) → 2 ≤ k → k < n → 2 ≤ stirlingOf n k
-stirling-more zero k more short = absurd (omega arith)
-stirling-more (suc n) zero more short = absurd (omega arith)
-stirling-more (suc n) (suc k) more short =
-    let some : 2 * 1 ≤ suc k * stirlingOf n (suc k) = mul-le-mul more (stirling-positive n (suc k) (omega arith) (omega arith)) in
-    omega (arith, stirling-rule n k, some)
-
--- a row through the even row at or above it
-
-pub even-row : (n k : ℕ) → n % 2 ≡ 0 → stirlingOf (2 * (n / 2)) k ≡ stirlingOf n k
-even-row n k e = let same : 2 * (n / 2) ≡ n = omega arith in ap (λ m. stirlingOf m k) same
-
-pub odd-row : (n k : ℕ) → (n % 2 ≡ 0 → ⊥) → 0 < k → stirlingOf (2 * (n / 2)) (k - 1) + k * stirlingOf (2 * (n / 2)) k ≡ stirlingOf n k
-odd-row n k odd pos =
-    let row : suc (2 * (n / 2)) ≡ n = omega arith in
-    let here : suc (k - 1) ≡ k = omega arith in
-    ap (λ j. stirlingOf (2 * (n / 2)) (k - 1) + j * stirlingOf (2 * (n / 2)) j) (sym here) ∙ sym (stirling-rule (2 * (n / 2)) (k - 1)) ∙ ap₂ stirlingOf row here

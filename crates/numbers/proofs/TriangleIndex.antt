@@ -10,7 +10,11 @@ use lib.Seq.{getD-append-add}
 use Rattle.numbers.specs.Sums.{range}
 use Rattle.numbers.proofs.Ranges.{length-range, getD-table}
 use Rattle.numbers.proofs.Triangles.{row, flatFrom}
-use Rattle.numbers.proofs.Widths.{above}
+
+-- how many stand in j rows from row n on, of so many each
+unfoldable above : (ℕ → ℕ) → ℕ → ℕ → ℕ
+above ℓ n zero = 0
+above ℓ n (suc j) = ℓ n + above ℓ (suc n) j
 
 length-row : (T : ℕ → ℕ → ℕ) (n : ℕ) → length (row T n) ≡ suc n
 unfolding row

@@ -1,6 +1,6 @@
 -- `families::counts::fits` meets its contract. An exact answer is below 2^64, and any other is not; for kind 4 the place tells.
 -- Assumes nothing.
-use mathlib.Core.Path.{_≡_, sym, _∙_, ap}
+use mathlib.Core.Path.{sym, _∙_, ap}
 use Prim.Native.Nat.{ℕ, _^_}
 use lib.Dec.{ltb}
 use borrow.Author.Tests.{lt-ltb, le-ltb, leb-true}
