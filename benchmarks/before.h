@@ -1,22 +1,39 @@
-/* An earlier build of the library, where one is linked under these names to be measured beside today's; else today's. */
+/* An earlier build of the library, where one is linked with its functions renamed to before_*, to be measured beside today's; else today's.
+ * BEFORE_BY_NUMBERS: one whose calls took a family's numbers and its count list one by one. */
 #ifndef BEFORE_H
 #define BEFORE_H
 
-#ifdef WITH_BEFORE
-#include <stddef.h>
-#include <stdint.h>
+#include "../include/arrangements.h"
 
+#if defined(WITH_BEFORE) && defined(BEFORE_BY_NUMBERS)
 uint32_t before_count(uint64_t kind, uint64_t n, uint64_t k, const uint8_t *counts, size_t letters, uint64_t *value);
 uint32_t before_next(uint64_t kind, uint64_t n, uint64_t k, const uint8_t *counts, size_t letters, uint8_t *object, size_t len);
 uint32_t before_previous(uint64_t kind, uint64_t n, uint64_t k, const uint8_t *counts, size_t letters, uint8_t *object, size_t len);
 uint32_t before_rank(uint64_t kind, uint64_t n, uint64_t k, const uint8_t *counts, size_t letters, const uint8_t *object, size_t len, uint64_t *value);
 uint32_t before_unrank(uint64_t kind, uint64_t n, uint64_t k, const uint8_t *counts, size_t letters, uint64_t rank, uint8_t *object, size_t len);
+#define BY_NUMBERS(f, lists) (f).kind, (f).n, (f).k, (lists)->counts.bytes, (lists)->counts.length
+#define earlier_count(f, lists, value) before_count(BY_NUMBERS(f, lists), value)
+#define earlier_next(f, lists, object, len) before_next(BY_NUMBERS(f, lists), object, len)
+#define earlier_previous(f, lists, object, len) before_previous(BY_NUMBERS(f, lists), object, len)
+#define earlier_rank(f, lists, object, len, value) before_rank(BY_NUMBERS(f, lists), object, len, value)
+#define earlier_unrank(rank, f, lists, object, len) before_unrank(BY_NUMBERS(f, lists), rank, object, len)
+#elif defined(WITH_BEFORE)
+uint32_t before_count(arrangement_family f, const arrangement_lists *lists, uint64_t *value);
+uint32_t before_next(arrangement_family f, const arrangement_lists *lists, uint8_t *object, size_t len);
+uint32_t before_previous(arrangement_family f, const arrangement_lists *lists, uint8_t *object, size_t len);
+uint32_t before_rank(arrangement_family f, const arrangement_lists *lists, const uint8_t *object, size_t len, uint64_t *value);
+uint32_t before_unrank(uint64_t rank, arrangement_family f, const arrangement_lists *lists, uint8_t *object, size_t len);
+#define earlier_count before_count
+#define earlier_next before_next
+#define earlier_previous before_previous
+#define earlier_rank before_rank
+#define earlier_unrank before_unrank
 #else
-#define before_count arrangement_count
-#define before_next arrangement_next
-#define before_previous arrangement_previous
-#define before_rank arrangement_rank
-#define before_unrank arrangement_unrank
+#define earlier_count arrangement_count
+#define earlier_next arrangement_next
+#define earlier_previous arrangement_previous
+#define earlier_rank arrangement_rank
+#define earlier_unrank arrangement_unrank
 #endif
 
 #endif

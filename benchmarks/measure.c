@@ -32,6 +32,8 @@ enum { MOST = 5 }; /* how many can be measured beside each other */
 
 static uint8_t pool[POOL][PLACES];
 static uint64_t ranks[POOL];
+static arrangement_family family; /* what is measured, as the library takes it */
+static arrangement_lists lists;
 static volatile uint64_t sink;
 
 static uint64_t state = 0x9E3779B97F4A7C15u;
@@ -108,6 +110,8 @@ static void costly(const Family *f, uint8_t *x) {
 
 static void fill_pool(const Family *f) {
     uint64_t count = 0;
+    family = arrangement_family_of(f->kind, f->n, f->k);
+    lists = arrangement_counts(f->counts, f->letters);
     if (f->ranks) plain_count(f->kind, f->n, f->k, f->counts, f->letters, &count);
     for (int i = 0; i < POOL; i++) {
         ranks[i] = count ? random_number() % count : 0;
@@ -128,18 +132,18 @@ static uint64_t call(Who who, Call c, const Family *f, int i, uint8_t *x) {
     const uint8_t *counts = f->counts;
     memcpy(x, pool[i], PLACES);
     if (who == LIBRARY) switch (c) {
-        case COUNT: code = arrangement_count(f->kind, f->n, f->k, counts, f->letters, &value); break;
-        case NEXT: code = arrangement_next(f->kind, f->n, f->k, counts, f->letters, x, f->len); break;
-        case PREVIOUS: code = arrangement_previous(f->kind, f->n, f->k, counts, f->letters, x, f->len); break;
-        case RANK: code = arrangement_rank(f->kind, f->n, f->k, counts, f->letters, x, f->len, &value); break;
-        case UNRANK: code = arrangement_unrank(f->kind, f->n, f->k, counts, f->letters, ranks[i], x, f->len); break;
+        case COUNT: code = arrangement_count(family, &lists, &value); break;
+        case NEXT: code = arrangement_next(family, &lists, x, f->len); break;
+        case PREVIOUS: code = arrangement_previous(family, &lists, x, f->len); break;
+        case RANK: code = arrangement_rank(family, &lists, x, f->len, &value); break;
+        case UNRANK: code = arrangement_unrank(ranks[i], family, &lists, x, f->len); break;
         }
     else if (who == BEFORE) switch (c) {
-        case COUNT: code = before_count(f->kind, f->n, f->k, counts, f->letters, &value); break;
-        case NEXT: code = before_next(f->kind, f->n, f->k, counts, f->letters, x, f->len); break;
-        case PREVIOUS: code = before_previous(f->kind, f->n, f->k, counts, f->letters, x, f->len); break;
-        case RANK: code = before_rank(f->kind, f->n, f->k, counts, f->letters, x, f->len, &value); break;
-        case UNRANK: code = before_unrank(f->kind, f->n, f->k, counts, f->letters, ranks[i], x, f->len); break;
+        case COUNT: code = earlier_count(family, &lists, &value); break;
+        case NEXT: code = earlier_next(family, &lists, x, f->len); break;
+        case PREVIOUS: code = earlier_previous(family, &lists, x, f->len); break;
+        case RANK: code = earlier_rank(family, &lists, x, f->len, &value); break;
+        case UNRANK: code = earlier_unrank(ranks[i], family, &lists, x, f->len); break;
         }
     else if (who == PLAIN) switch (c) {
         case COUNT: code = plain_count(f->kind, f->n, f->k, counts, f->letters, &value); break;

@@ -1,7 +1,8 @@
-/* Arrangement numbers: the seven calls on families of combinatorial objects.
+/* Arrangement numbers: the seven calls on families of combinatorial objects, and the length of an object.
  *
- * Build the library with `rt staticlib exports` and link target/staticlib/libexports.a.
- * Every call answers any arguments; no call has a precondition beyond valid pointers. docs/PROMISES.md says what is proved.
+ * Build the library with `rt staticlib arrangements` and link target/staticlib/libarrangements.a.
+ * Every call answers any arguments; no call has a precondition beyond valid pointers, not null, and that what it writes to overlaps nothing else
+ * that it is lent. docs/PROMISES.md says what is proved.
  *
  * A family is (kind, n, k) and, for kind 2, a list of letter counts, one byte a letter; for other kinds the list is empty.
  *   kind 1  subsets of k out of 1 to n, ascending          k bytes       n, k up to 80
@@ -34,22 +35,59 @@ extern "C" {
 #define ARRANGEMENT_DONE 0u
 #define ARRANGEMENT_END 100u
 
+/* A family is passed by value. Make one by arrangement_family_of: later fields then have their defaults. */
+typedef struct {
+    uint64_t kind, n, k;
+} arrangement_family;
+
+static inline arrangement_family arrangement_family_of(uint64_t kind, uint64_t n, uint64_t k)
+{
+    arrangement_family f = {kind, n, k};
+    return f;
+}
+
+/* Bytes that are read only. A list that isn't used is any valid pointer with length 0. */
+typedef struct {
+    const uint8_t *bytes;
+    size_t length;
+} arrangement_list;
+
+/* All lists that are lent beside a family. Make them by arrangement_no_lists or arrangement_counts: later lists are then empty. */
+typedef struct {
+    arrangement_list counts;
+} arrangement_lists;
+
+static inline arrangement_lists arrangement_counts(const uint8_t *counts, size_t length)
+{
+    arrangement_lists lists = {{counts, length}};
+    return lists;
+}
+
+static inline arrangement_lists arrangement_no_lists(void)
+{
+    static const uint8_t none[1] = {0};
+    return arrangement_counts(none, 0);
+}
+
+/* Writes to *value how long the family's objects are; asks questions 1 to 3. */
+uint32_t arrangement_object_length(arrangement_family f, const arrangement_lists *lists, uint64_t *value);
+
 /* COUNT: writes the number of objects to *value. */
-uint32_t arrangement_count(uint64_t kind, uint64_t n, uint64_t k, const uint8_t *counts, size_t counts_len, uint64_t *value);
+uint32_t arrangement_count(arrangement_family f, const arrangement_lists *lists, uint64_t *value);
 
 /* FIRST and LAST: write the earliest and the latest object. */
-uint32_t arrangement_first(uint64_t kind, uint64_t n, uint64_t k, const uint8_t *counts, size_t counts_len, uint8_t *object, size_t object_len);
-uint32_t arrangement_last(uint64_t kind, uint64_t n, uint64_t k, const uint8_t *counts, size_t counts_len, uint8_t *object, size_t object_len);
+uint32_t arrangement_first(arrangement_family f, const arrangement_lists *lists, uint8_t *object, size_t object_len);
+uint32_t arrangement_last(arrangement_family f, const arrangement_lists *lists, uint8_t *object, size_t object_len);
 
 /* NEXT and PREVIOUS: replace the object by its neighbour, or answer ARRANGEMENT_END and change nothing. */
-uint32_t arrangement_next(uint64_t kind, uint64_t n, uint64_t k, const uint8_t *counts, size_t counts_len, uint8_t *object, size_t object_len);
-uint32_t arrangement_previous(uint64_t kind, uint64_t n, uint64_t k, const uint8_t *counts, size_t counts_len, uint8_t *object, size_t object_len);
+uint32_t arrangement_next(arrangement_family f, const arrangement_lists *lists, uint8_t *object, size_t object_len);
+uint32_t arrangement_previous(arrangement_family f, const arrangement_lists *lists, uint8_t *object, size_t object_len);
 
 /* RANK: writes how many objects come before this one to *value. */
-uint32_t arrangement_rank(uint64_t kind, uint64_t n, uint64_t k, const uint8_t *counts, size_t counts_len, const uint8_t *object, size_t object_len, uint64_t *value);
+uint32_t arrangement_rank(arrangement_family f, const arrangement_lists *lists, const uint8_t *object, size_t object_len, uint64_t *value);
 
 /* UNRANK: writes the object that has `rank` objects before it. */
-uint32_t arrangement_unrank(uint64_t kind, uint64_t n, uint64_t k, const uint8_t *counts, size_t counts_len, uint64_t rank, uint8_t *object, size_t object_len);
+uint32_t arrangement_unrank(uint64_t rank, arrangement_family f, const arrangement_lists *lists, uint8_t *object, size_t object_len);
 
 #ifdef __cplusplus
 }

@@ -17,29 +17,33 @@ int main(void)
 {
     /* A tree with two of model 1, three of model 2 and two of model 3, hung in this order. */
     const uint8_t counts[3] = {2, 3, 2};
+    const arrangement_family trees = arrangement_family_of(2, 3, 0);
+    const arrangement_lists lists = arrangement_counts(counts, 3);
     uint8_t tree[7] = {1, 2, 2, 3, 1, 3, 2};
-    uint64_t all = 0, number = 0;
+    uint64_t length = 0, all = 0, number = 0;
 
-    if (arrangement_count(2, 3, 0, counts, 3, &all) != ARRANGEMENT_DONE)
+    if (arrangement_object_length(trees, &lists, &length) != ARRANGEMENT_DONE || length != sizeof tree)
         return 1;
-    if (arrangement_rank(2, 3, 0, counts, 3, tree, 7, &number) != ARRANGEMENT_DONE)
+    if (arrangement_count(trees, &lists, &all) != ARRANGEMENT_DONE)
+        return 1;
+    if (arrangement_rank(trees, &lists, tree, 7, &number) != ARRANGEMENT_DONE)
         return 1;
     show("the tree", tree, 7);
     printf("its number, of %" PRIu64 ":                %" PRIu64 "\n", all, number);
 
     memset(tree, 0, sizeof tree);
-    if (arrangement_unrank(2, 3, 0, counts, 3, number, tree, 7) != ARRANGEMENT_DONE)
+    if (arrangement_unrank(number, trees, &lists, tree, 7) != ARRANGEMENT_DONE)
         return 1;
     show("the tree for that number", tree, 7);
-    if (arrangement_next(2, 3, 0, counts, 3, tree, 7) != ARRANGEMENT_DONE)
+    if (arrangement_next(trees, &lists, tree, 7) != ARRANGEMENT_DONE)
         return 1;
     show("one step on", tree, 7);
-    if (arrangement_previous(2, 3, 0, counts, 3, tree, 7) != ARRANGEMENT_DONE)
+    if (arrangement_previous(trees, &lists, tree, 7) != ARRANGEMENT_DONE)
         return 1;
     show("and back", tree, 7);
 
     /* A number that no arrangement has is refused by question 8, and the tree stays. */
-    uint32_t code = arrangement_unrank(2, 3, 0, counts, 3, all, tree, 7);
+    uint32_t code = arrangement_unrank(all, trees, &lists, tree, 7);
     printf("number %" PRIu64 " is refused by question %" PRIu32 "\n", all, code);
     return code == 8 ? 0 : 1;
 }

@@ -30,7 +30,7 @@ pub fn rank(counts: &[u8], object: &[u8]) -> u64
 }
 
 // The word of a rank.
-pub fn unrank(counts: &[u8], rank: u64, object: &mut [u8])
+pub fn unrank(rank: u64, counts: &[u8], object: &mut [u8])
     requires { ⌜ length (now counts) ≤ places ⌝ }
     requires { ⌜ (total (now counts) ≤ places) × (length (now object) ≡ total (now counts)) ⌝ }
     requires { ⌜ multinomialOf (now counts) < 2 ^ 64 ⌝ }
@@ -39,5 +39,5 @@ pub fn unrank(counts: &[u8], rank: u64, object: &mut [u8])
 {
     let mut space = copied(counts);
     let n = counts.len();
-    ranking::write_word(&mut space[..n], ranking::all_words(counts), rank, object);
+    ranking::write_word(rank, &mut space[..n], ranking::all_words(counts), object);
 }

@@ -93,7 +93,7 @@ pub fn rank_of(left: &mut [u8], all: u64, object: &[u8]) -> u64
 }
 
 // The first letter of the word of a rank, from 0: as many words start with an earlier one as fit into the rank.
-fn letter_of(left: &[u8], words: u64, m: u64, rank: u64) -> usize
+fn letter_of(rank: u64, left: &[u8], words: u64, m: u64) -> usize
     requires { ⌜ (total (now left) ≡ m) × ((0 < m) × (m ≤ places)) ⌝ }
     requires { ⌜ rank < words ⌝ }
     ensures { λ r. ⌜ r < length (now (left .entry)) ⌝ }
@@ -110,7 +110,7 @@ fn letter_of(left: &[u8], words: u64, m: u64, rank: u64) -> usize
 }
 
 // Place after place: the letter whose words the rank falls into, and the rank among these.
-pub fn write_word(left: &mut [u8], all: u64, rank: u64, object: &mut [u8])
+pub fn write_word(rank: u64, left: &mut [u8], all: u64, object: &mut [u8])
     requires { ⌜ (total (now left) ≤ places) × (length (now object) ≡ total (now left)) ⌝ }
     requires { ⌜ length (now left) ≤ places ⌝ }
     requires { ⌜ all ≡ multinomialOf (now left) ⌝ }
@@ -122,7 +122,7 @@ pub fn write_word(left: &mut [u8], all: u64, rank: u64, object: &mut [u8])
     let mut i = 0;
     while i < object.len() {
         let m = (object.len() - i) as u64;
-        let a = letter_of(left, words, m, rest);
+        let a = letter_of(rest, left, words, m);
         rest -= earlier(left, words, m, a);
         words = spend(left, words, m, a);
         object[i] = (a + 1) as u8;

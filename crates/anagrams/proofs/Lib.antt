@@ -2,6 +2,7 @@
 pub mod Facts
 pub mod Theorem
 pub mod PermutationTheorem
+pub mod Laws
 pub mod Rearranging
 pub mod Neighbours
 pub mod Tails

@@ -8,12 +8,12 @@ use Prim.Native.Nat.{ℕ}
 use native.Mathlib.Omega.{arith}
 use borrow.Author.Tests.{ltb-true, ltb-false, lt-ltb, le-ltb, not-true}
 use Rattle.listings.specs.Bytes.{Bytes}
-use Rattle.listings.specs.Orders.{firstDiffers}
+use Rattle.listings.specs.Orders.{lexBefore}
 use Rattle.listings.specs.Listings.{Ascending, none, more}
 use Rattle.listings.specs.Places.{First, Last}
 use Rattle.listings.specs.Calls.{NEXT, PREVIOUS, STEPPED, END, Said, act}
 use Rattle.listings.proofs.Bools.{fails}
-use Rattle.listings.proofs.OrderFacts.{first-cases, first-less, first-tie, first-irreflexive}
+use Rattle.listings.proofs.OrderFacts.{lex-cases, lex-less, lex-tie, lex-irreflexive}
 use Rattle.listings.proofs.Ranks.{none-between, least-first, greatest-last}
 use Rattle.listings.proofs.Stepping.{next-steps, next-ends, previous-steps, previous-ends}
 use Rattle.anagrams.specs.Objects.{isAnagram, anagramBefore}
@@ -61,22 +61,22 @@ spent-reverse false s = ascending-onto s none (λ a b k m. absurd (List·Memᴰ�
 -- one word and another
 
 earlier : Bool → Bytes → Bytes → Bool
-earlier up x y = cond up (firstDiffers x y) (firstDiffers y x)
+earlier up x y = cond up (lexBefore x y) (lexBefore y x)
 
 earlier-cases : (up : Bool) (a b : ℕ) (x y : Bytes) → earlier up (a ∷ x) (b ∷ y) ≡ true → (precedesBy up a b ≡ true) ⊎ ((a ≡ b) × (earlier up x y ≡ true))
 unfolding earlier precedesBy
-earlier-cases true a b x y e = ⊎-elim (λ h. inl (lt-ltb a b h)) inr (first-cases a b x y e)
-earlier-cases false a b x y e = ⊎-elim (λ h. inl (lt-ltb b a h)) (λ h. inr (sym (h .0), h .1)) (first-cases b a y x e)
+earlier-cases true a b x y e = ⊎-elim (λ h. inl (lt-ltb a b h)) inr (lex-cases a b x y e)
+earlier-cases false a b x y e = ⊎-elim (λ h. inl (lt-ltb b a h)) (λ h. inr (sym (h .0), h .1)) (lex-cases b a y x e)
 
 earlier-less : (up : Bool) (a b : ℕ) (x y : Bytes) → precedesBy up a b ≡ true → earlier up (a ∷ x) (b ∷ y) ≡ true
 unfolding earlier precedesBy
-earlier-less true a b x y h = first-less a b x y (ltb-true a b h)
-earlier-less false a b x y h = first-less b a y x (ltb-true b a h)
+earlier-less true a b x y h = lex-less a b x y (ltb-true a b h)
+earlier-less false a b x y h = lex-less b a y x (ltb-true b a h)
 
 earlier-tie : (up : Bool) (a : ℕ) (x y : Bytes) → earlier up x y ≡ true → earlier up (a ∷ x) (a ∷ y) ≡ true
 unfolding earlier
-earlier-tie true a x y h = first-tie a a x y refl h
-earlier-tie false a x y h = first-tie a a y x refl h
+earlier-tie true a x y h = lex-tie a a x y refl h
+earlier-tie false a x y h = lex-tie a a y x refl h
 
 earlier-turned : (up : Bool) (x y : Bytes) → earlier up x y ≡ earlier (not up) y x
 unfolding earlier
@@ -85,8 +85,8 @@ earlier-turned false x y = refl
 
 earlier-never : (up : Bool) (x : Bytes) → earlier up x x ≡ true → ⊥
 unfolding earlier
-earlier-never true x h = first-irreflexive x h
-earlier-never false x h = first-irreflexive x h
+earlier-never true x h = lex-irreflexive x h
+earlier-never false x h = lex-irreflexive x h
 
 earlier-front : (up : Bool) (front x y : Bytes) → earlier up x y ≡ true → earlier up (front ++ x) (front ++ y) ≡ true
 earlier-front up [] x y h = h

@@ -16,7 +16,7 @@ use Rattle.listings.specs.Bytes.{Bytes}
 use Rattle.listings.specs.Listings.{Ascending, none, more, Listing}
 use Rattle.listings.proofs.Members.{flatMap-in, flatMap-of, length-flatMap}
 use Rattle.listings.proofs.AscendingRules.{ascending-map, ascending-flatMap}
-use Rattle.listings.proofs.OrderFacts.{first-strict, first-less, first-tie}
+use Rattle.listings.proofs.OrderFacts.{lex-strict, lex-less, lex-tie}
 use Rattle.anagrams.specs.Objects.{isAnagram, anagramBefore}
 use Rattle.anagrams.specs.Listing.{words, anagrams}
 use Rattle.anagrams.proofs.Facts.{anagram-cases, first-off, without-first, empty-word}
@@ -55,11 +55,11 @@ unfolding words
 ascending-words zero cs = more (λ y k. absurd (List·Memᴰ·not-nil k)) none
 ascending-words (suc m) cs =
     ascending-flatMap _ (ascending-letters 0 cs)
-    (λ i k. ascending-map _ (λ x y p q. first-tie _ _ x y refl) (ascending-words m (oneLess cs i)))
+    (λ i k. ascending-map _ (λ x y p q. lex-tie _ _ x y refl) (ascending-words m (oneLess cs i)))
     (λ i j k l h x y p q.
     let (v, pv, ev) = Memᴰ·of-map _ (words m (oneLess cs i)) p in
     let (w, qw, ew) = Memᴰ·of-map _ (words m (oneLess cs j)) q in
-    rw (← ev, ← ew) (first-less _ _ v w (omega (arith, ltb-true i j h))))
+    rw (← ev, ← ew) (lex-less _ _ v w (omega (arith, ltb-true i j h))))
 
 -- no letters make one word, the empty one
 pub one-empty : (cs : List ℕ) → total cs ≡ 0 → multinomialOf cs ≡ 1
@@ -79,7 +79,7 @@ counted-words (suc m) cs s =
 pub lists : (cs : List ℕ) → Listing (isAnagram cs) anagramBefore (anagrams cs)
 unfolding anagrams
 lists cs = record {
-  order = first-strict (isAnagram cs) (total cs) (long cs);
+  order = lex-strict (isAnagram cs) (total cs) (long cs);
   every = λ x. every-word (total cs) cs x refl;
   only = λ x. only-words (total cs) cs x refl;
   ascending = ascending-words (total cs) cs;

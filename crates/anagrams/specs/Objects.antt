@@ -7,7 +7,7 @@ use lib.Dec.{eqb}
 use lib.ListN.{length}
 use Rattle.numbers.specs.Sums.{total}
 use Rattle.listings.specs.Bytes.{Bytes}
-use Rattle.listings.specs.Orders.{firstDiffers}
+use Rattle.listings.specs.Orders.{lexBefore}
 use Rattle.listings.specs.Places.{tick}
 
 -- how often the letter a stands in the word
@@ -26,4 +26,4 @@ isAnagram cs x = eqb (length x) (total cs) && tallies 1 cs x
 
 -- "at the first place where they differ, the smaller letter"
 abbrev pub anagramBefore : Bytes → Bytes → Bool
-anagramBefore = firstDiffers
+anagramBefore = lexBefore

@@ -83,5 +83,5 @@ pub fn step(object: &mut [u8], up: bool) -> Step
     let other = last_beyond(object, pivot, up);
     swap(object, pivot, other);
     turn_round(&mut object[tail..]);
-    Step::Stepped
+    Step::Moved
 }

@@ -1,7 +1,7 @@
 -- Digit by digit what a field reads: it is a number of no more digits than the field is wide, and it is the number that a column shows.
 -- Assumes nothing.
 use mathlib.Core.Path.{_≡_, refl, _∙_, ap}
-use mathlib.Core.Bool.{Bool, true, false, _&&_, and-false}
+use mathlib.Core.Bool.{Bool, true, false, _&&_, cond, and-false}
 use mathlib.Core.Option.{Option, none, some, Option·some-injective, Option·none-ne-some}
 use mathlib.Core.List.{[], _∷_, _++_}
 use Prim.Native.Nat.{ℕ, zero, suc, _+_, _-_, _*_, _^_, _/_, _%_, _≤_, _<_}
@@ -16,20 +16,20 @@ use borrow.Author.Tests.{le-leb, lt-leb, leb-true, eq-eqb, ne-eqb}
 use Rattle.listings.specs.Bytes.{Bytes}
 use Rattle.listings.proofs.Bools.{and-true}
 use Rattle.columns.specs.Columns.{blank, column}
-use Rattle.columns.specs.Fields.{onlyIf, digits, choose3, field}
+use Rattle.columns.specs.Fields.{fieldWidth, largestField, digits, field}
 use Rattle.columns.proofs.ColumnLaws.{column-digit, column-digits}
 
 -- the bytes that are digits
 pub digit-read : (v b : ℕ) (x : Bytes) → 48 ≤ b → b ≤ 57 → digits v (b ∷ x) ≡ digits (10 * v + (b - 48)) x
-unfolding digits onlyIf
+unfolding digits
 digit-read v b x l h = rw (le-leb 48 b l, le-leb b 57 h)
 
 pub digit-low : (v b : ℕ) (x : Bytes) → b < 48 → digits v (b ∷ x) ≡ none
-unfolding digits onlyIf
+unfolding digits
 digit-low v b x l = rw (lt-leb 48 b l)
 
 pub digit-high : (v b : ℕ) (x : Bytes) → 57 < b → digits v (b ∷ x) ≡ none
-unfolding digits onlyIf
+unfolding digits
 digit-high v b x h = rw (lt-leb b 57 h, and-false)
 
 -- from a place on
@@ -40,8 +40,7 @@ digits-at x i v h = rw (add-one, drop-cons x i 0)
 pub grown : (v b i : ℕ) → v < 10 ^ i → b ≤ 57 → 10 * v + (b - 48) < 10 ^ suc i
 grown v b i h l = rw pow-suc (omega arith)
 
-only-if : {A : Type 0} (b : Bool) {o : Option A} {a : A} → onlyIf b o ≡ some a → (b ≡ true) × (o ≡ some a)
-unfolding onlyIf
+only-if : {A : Type 0} (b : Bool) {o : Option A} {a : A} → cond b o none ≡ some a → (b ≡ true) × (o ≡ some a)
 only-if true e = (refl, e)
 only-if false {a = a} e = absurd (Option·none-ne-some a e)
 
@@ -54,8 +53,7 @@ digits-below (b ∷ x) v i w h e =
     rw (suc-add, ← add-suc) (digits-below x (10 * v + (b - 48)) (suc i) w (grown v b i h l) (t .1))
 
 -- the three cases of a field: what follows in each follows, also of the case itself
-chosen : (P : Option ℕ → Type 0) (p q : Bool) {s l n s′ l′ n′ : Option ℕ} {w : ℕ} → choose3 p q s l n ≡ some w → (s ≡ some w → P s′) → (l ≡ some w → P l′) → (n ≡ some w → P n′) → P (choose3 p q s′ l′ n′)
-unfolding choose3
+chosen : (P : Option ℕ → Type 0) (p q : Bool) {s l n s′ l′ n′ : Option ℕ} {w : ℕ} → cond p s (cond q l n) ≡ some w → (s ≡ some w → P s′) → (l ≡ some w → P l′) → (n ≡ some w → P n′) → P (cond p s′ (cond q l′ n′))
 chosen P true q e f g h = f e
 chosen P false true e f g h = g e
 chosen P false false e f g h = h e
@@ -70,14 +68,14 @@ field-below (b ∷ x) w e = chosen (λ _. w < 10 ^ length (b ∷ x)) (eqb b blan
     (λ n. rw add-zero at (digits-below (b ∷ x) 0 0 w (omega arith) n))
 
 -- "in 4 columns"
-pub field-small : (x : Bytes) (w : ℕ) → length x ≤ 4 → field x ≡ some w → w ≤ 9999
+pub field-small : (x : Bytes) (w : ℕ) → length x ≤ fieldWidth → field x ≡ some w → w ≤ largestField
 field-small x w h e =
     let p : 10 ^ length x ≤ 10000 = pow-le-pow-right {n = 10} (omega arith) h in
     omega (arith, field-below x w e)
 
 -- one more digit at the end
 digits-more : (x : Bytes) (v m d : ℕ) → d < 10 → digits v x ≡ some m → digits v (x ++ ((48 + d) ∷ [])) ≡ some (10 * m + d)
-unfolding digits onlyIf
+unfolding digits
 digits-more [] v m d h e =
     digit-read v (48 + d) [] (omega arith) (omega arith) ∙ ap some (omega (arith, Option·some-injective v m e))
 digits-more (b ∷ x) v m d h e =
@@ -103,33 +101,33 @@ field-none [] e = refl
 field-none (b ∷ x) e = absurd (omega arith)
 
 pub field-blank : (x : Bytes) → getD x 0 0 ≡ blank → field x ≡ field (drop 1 x)
-unfolding field choose3
+unfolding field
 field-blank [] e = refl
 field-blank (b ∷ x) e = rw (eq-eqb b blank e)
 
 pub field-lone : (x : Bytes) → length x ≡ 1 → getD x 0 0 ≡ 48 → field x ≡ some 0
-unfolding field choose3 onlyIf
+unfolding field
 field-lone [] l e = absurd (omega arith)
 field-lone (b ∷ x) l e = rw (eq-eqb b 48 e, ne-eqb b blank (λ f. omega arith), eq-eqb (length x) 0 (omega arith))
 
 pub field-leading : (x : Bytes) → (length x ≡ 1 → ⊥) → getD x 0 0 ≡ 48 → field x ≡ none
-unfolding field choose3 onlyIf
+unfolding field
 field-leading [] l e = refl
 field-leading (b ∷ x) l e = rw (eq-eqb b 48 e, ne-eqb b blank (λ f. omega arith), ne-eqb (length x) 0 (λ f. l (omega arith)))
 
 pub field-number : (x : Bytes) → (length x ≡ 0 → ⊥) → (getD x 0 0 ≡ blank → ⊥) → (getD x 0 0 ≡ 48 → ⊥) → field x ≡ digits 0 x
-unfolding field choose3
+unfolding field
 field-number [] l h k = absurd (l refl)
 field-number (b ∷ x) l h k = rw (ne-eqb b blank h, ne-eqb b 48 k)
 
 field-digit : (n : ℕ) → n < 10 → field ((48 + n) ∷ []) ≡ some n
-unfolding field choose3 onlyIf digits
+unfolding field digits
 field-digit zero h = refl
 field-digit (suc n) h =
     field-number ((48 + suc n) ∷ []) (λ e. omega arith) (λ e. omega arith) (λ e. omega arith) ∙ digits-more [] 0 0 (suc n) h refl ∙ ap some (omega arith)
 
 after-blanks : (k : ℕ) (x : Bytes) → field (replicate k blank ++ x) ≡ field x
-unfolding field choose3
+unfolding field
 after-blanks zero x = refl
 after-blanks (suc k) x = after-blanks k x
 

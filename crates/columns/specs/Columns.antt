@@ -1,6 +1,6 @@
 -- Numbers and words in columns, right-justified with blanks, as bytes of ASCII.
 -- Assumes nothing.
-use mathlib.Core.Bool.{Bool, true, false}
+use mathlib.Core.Bool.{cond}
 use mathlib.Core.List.{[], _∷_, _++_}
 use Prim.Native.Nat.{ℕ, zero, suc, _+_, _-_, _/_, _%_}
 use lib.Dec.{eqb}
@@ -13,15 +13,10 @@ blank = 32
 abbrev pub newline : ℕ
 newline = 10
 
--- blanks where no digit is left
-unfoldable pub front : Bool → ℕ → Bytes → Bytes
-front true w s = replicate w blank
-front false w s = s
-
--- "right-justified with blanks in 4 columns", "in 20 columns": a number's last w digits, without leading zeros
+-- "right-justified with blanks in 4 columns", "in 20 columns": a number's last w digits, and blanks where none is left
 unfoldable pub column : ℕ → ℕ → Bytes
 column zero n = []
-column (suc w) n = front (eqb (n / 10) 0) w (column w (n / 10)) ++ ((48 + n % 10) ∷ [])
+column (suc w) n = cond (eqb (n / 10) 0) (replicate w blank) (column w (n / 10)) ++ ((48 + n % 10) ∷ [])
 
 -- "the line END, right-justified in 20 columns"
 unfoldable pub justified : ℕ → Bytes → Bytes

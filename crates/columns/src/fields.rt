@@ -2,8 +2,13 @@
 ghost use mathlib.Core.Path.{_≡_};
 ghost use Prim.Native.Nat.{_≤_};
 ghost use lib.ListN.{length};
-ghost use Rattle.columns.specs.Fields.{digits as digitsOf, field as fieldOf};
+ghost use Rattle.columns.specs.Fields.{fieldWidth, digits as digitsOf, field as fieldOf};
 ghost use Rattle.columns.specs.Writing.{valueAs};
+
+// The columns of a field, and the largest number that they show.
+pub const WIDTH: usize = 4;
+
+pub const LARGEST: usize = 9999;
 
 pub enum Value {
     Number(u64),
@@ -12,7 +17,7 @@ pub enum Value {
 
 // Digits to the end.
 fn digits(part: &[u8]) -> Value
-    requires { ⌜ length (now part) ≤ 4 ⌝ }
+    requires { ⌜ length (now part) ≤ fieldWidth ⌝ }
     ensures { λ r. ⌜ valueAs r ≡ digitsOf 0 (now (part .entry)) ⌝ }
 {
     let mut v: u64 = 0;
@@ -31,9 +36,9 @@ fn digits(part: &[u8]) -> Value
     Value::Number(v)
 }
 
-// A field of at most 4 columns.
+// A field, or a part of one behind blanks.
 pub fn field(part: &[u8]) -> Value
-    requires { ⌜ length (now part) ≤ 4 ⌝ }
+    requires { ⌜ length (now part) ≤ fieldWidth ⌝ }
     ensures { λ r. ⌜ valueAs r ≡ fieldOf (now (part .entry)) ⌝ }
 {
     if part.len() == 0 {

@@ -1,7 +1,7 @@
 -- What an answer about a count tells, and which answer a count has: both directions of `fits`.
 -- Assumes nothing.
 use mathlib.Core.Path.{_≡_, refl, sym, _∙_, ap}
-use mathlib.Core.Bool.{Bool, true, false, _&&_, and-false}
+use mathlib.Core.Bool.{Bool, true, false, _&&_, cond, and-false}
 use mathlib.Core.Logic.{_⊎_, inl, inr}
 use Prim.Native.Nat.{ℕ, _≤_, _<_, _^_}
 use native.Mathlib.Omega.{arith}
@@ -9,23 +9,21 @@ use lib.Dec.{leb, ltb}
 use borrow.Author.Tests.{lt-ltb, le-ltb, ltb-true, ltb-false, le-leb, lt-leb}
 use Rattle.counting.specs.declared.Count.{Count}
 use Rattle.counting.specs.declared.Count.the-variants.{Exactly, TooLarge, Outside}
-use Rattle.counting.specs.Answers.{pick, fits, within}
+use Rattle.counting.specs.Answers.{fits, within}
 
 pub fits-small : (v : ℕ) → v < 2 ^ 64 → fits v ≡ Exactly v
-unfolding fits pick
+unfolding fits
 fits-small v h = rw (lt-ltb v (2 ^ 64) h)
 
 pub fits-large : (v : ℕ) → 2 ^ 64 ≤ v → fits v ≡ TooLarge
-unfolding fits pick
+unfolding fits
 fits-large v h = rw (le-ltb v (2 ^ 64) h)
 
-picked : (t : Bool) (v x : ℕ) → pick t v ≡ Exactly x → (t ≡ true) × (v ≡ x)
-unfolding pick
+picked : (t : Bool) (v x : ℕ) → cond t (Exactly v) TooLarge ≡ Exactly x → (t ≡ true) × (v ≡ x)
 picked true v x e = (refl, cc)
 picked false v x e = let z : _≡_ {A = ℕ} 0 1 = cc in absurd (omega arith)
 
-not-picked : (t : Bool) (v : ℕ) → pick t v ≡ TooLarge → t ≡ false
-unfolding pick
+not-picked : (t : Bool) (v : ℕ) → cond t (Exactly v) TooLarge ≡ TooLarge → t ≡ false
 not-picked true v e = let z : _≡_ {A = ℕ} 0 1 = cc in absurd (omega arith)
 not-picked false v e = refl
 

@@ -1,20 +1,15 @@
 -- What a count's answer says: exactly a number below 2^64, or "too large", or that paper 01 doesn't speak of the arguments.
 -- Assumes nothing.
 use Prim.Native.Nat.{ℕ, _^_}
-use mathlib.Core.Bool.{Bool, true, false}
+use mathlib.Core.Bool.{Bool, cond}
 use lib.Dec.{ltb}
 use Rattle.counting.specs.declared.Count.{Count}
 use Rattle.counting.specs.declared.Count.the-variants.{Exactly, TooLarge, Outside}
 
-unfoldable pub pick : Bool → ℕ → Count
-pick true v = Exactly v
-pick false v = TooLarge
-
 -- question 5, "is the count below 2^64?": the count itself, or too large
 unfoldable pub fits : ℕ → Count
-fits v = pick (ltb v (2 ^ 64)) v
+fits v = cond (ltb v (2 ^ 64)) (Exactly v) TooLarge
 
 -- the answer for arguments within the limits, and the case of its own for all others
 unfoldable pub within : Bool → Count → Count
-within true c = c
-within false c = Outside
+within inside c = cond inside c Outside

@@ -12,6 +12,9 @@ ghost use Rattle.counting.specs.Answers.{fits, within};
 mod product;
 mod short;
 
+use numbers::BRANCHES;
+use numbers::PLACES;
+
 pub enum Count {
     // The count, below 2^64.
     Exactly(u64),
@@ -20,11 +23,6 @@ pub enum Count {
     // The arguments lie outside the limits of paper 01's table.
     Outside,
 }
-
-// The limits of numbers/specs/Limits.antt.
-const PLACES: u64 = 80;
-
-const BRANCHES: u64 = 40;
 
 // Kind 1, what COUNT answers: subsets of k out of n, a number of paper 01's constant table or worked out from it.
 pub fn subset_count(n: u64, k: u64) -> Count

@@ -7,9 +7,9 @@ ghost use Rattle.numbers.specs.Sums.{total};
 ghost use Rattle.numbers.specs.Numbers.{choose, multinomialOf};
 ghost use Rattle.counting.specs.Answers.{fits};
 use crate::Count;
-use crate::PLACES;
 use binomials::coefficient;
 use binomials::coefficient_fits;
+use numbers::PLACES;
 
 fn wide(b: u8) -> u64
     ensures { λ r. ⌜ r ≡ b ⌝ }
@@ -17,7 +17,7 @@ fn wide(b: u8) -> u64
     b as u64
 }
 
-// Is the sum of the counts at most 80? It stops at the first count that leads past the limit, so no sum wraps.
+// Is the sum of the counts within the places? It stops at the first count that leads past the limit, so no sum wraps.
 pub fn within_places(counts: &[u8]) -> bool
     ensures { λ r. ⌜ r ≡ leb (total (now (counts .entry))) places ⌝ }
 {

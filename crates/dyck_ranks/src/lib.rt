@@ -26,11 +26,11 @@ pub fn rank(n: u64, object: &[u8]) -> u64
 }
 
 // The word of a rank.
-pub fn unrank(n: u64, rank: u64, object: &mut [u8])
+pub fn unrank(rank: u64, n: u64, object: &mut [u8])
     requires { ⌜ (n ≤ branches) × (length (now object) ≡ 2 * n) ⌝ }
     requires { ⌜ catalanOf n < 2 ^ 64 ⌝ }
     requires { ⌜ rank < catalanOf n ⌝ }
     ensures { λ _. ⌜ At (dyckWords n) (now (object .exit)) rank ⌝ }
 {
-    ranking::write_word(n, rank, object);
+    ranking::write_word(rank, n, object);
 }

@@ -12,6 +12,7 @@ ghost use Rattle.dyck_words.specs.Listing.{dyckWords};
 ghost use Rattle.dyck_words.specs.Reading.{Told};
 ghost use Rattle.dyck_ranks.specs.Shorter.{shorter};
 use counting::catalan_that_fits;
+use dyck_words::ROWS;
 use dyck_words::inside_len;
 
 // Words with n of each, where their number fits.
@@ -45,7 +46,7 @@ fn shorter_insides(n: u64, j: u64) -> u64
 }
 
 // Ranking lends the inside and the rest to itself as parts from the middle of the word.
-pub fn rank_of(n: u64, object: &[u8], rows: &[u8; 81], after: usize) -> u64
+pub fn rank_of(n: u64, object: &[u8], rows: &[u8; ROWS], after: usize) -> u64
     requires { ⌜ (n ≤ branches) × (isDyckWord n (now object) ≡ true) ⌝ }
     requires { ⌜ (after + length (now object) < 2 ^ 64) × Told (now object) after (now rows) ⌝ }
     requires { ⌜ catalanOf n < 2 ^ 64 ⌝ }
@@ -67,7 +68,7 @@ pub fn rank_of(n: u64, object: &[u8], rows: &[u8; 81], after: usize) -> u64
 }
 
 // The size of the inside of the word of a rank, of n + 1 of each: as many have a smaller one as fit into the rank.
-fn inside_size(n: u64, rank: u64) -> u64
+fn inside_size(rank: u64, n: u64) -> u64
     requires { ⌜ (n < branches) × (catalanOf (suc n) < 2 ^ 64) × (rank < catalanOf (suc n)) ⌝ }
     ensures { λ r. ⌜ (r ≤ n) × (shorter n r ≤ rank) × (rank < shorter n (suc r)) ⌝ }
 {
@@ -81,7 +82,7 @@ fn inside_size(n: u64, rank: u64) -> u64
 }
 
 // Writes the word of a rank: what is left behind the shorter insides, divided by the rests, gives the ranks of the inside and the rest.
-pub fn write_word(n: u64, rank: u64, object: &mut [u8])
+pub fn write_word(rank: u64, n: u64, object: &mut [u8])
     requires { ⌜ (n ≤ branches) × (length (now object) ≡ 2 * n) ⌝ }
     requires { ⌜ catalanOf n < 2 ^ 64 ⌝ }
     requires { ⌜ rank < catalanOf n ⌝ }
@@ -91,7 +92,7 @@ pub fn write_word(n: u64, rank: u64, object: &mut [u8])
         return;
     }
     let m = n - 1;
-    let j = inside_size(m, rank);
+    let j = inside_size(rank, m);
     let k = m - j;
     let left = rank - shorter_insides(m, j);
     let rests = ways(k);
@@ -100,6 +101,6 @@ pub fn write_word(n: u64, rank: u64, object: &mut [u8])
     let close = (2 * j + 1) as usize;
     object[0] = 1;
     object[close] = 0;
-    write_word(j, inside_rank, &mut object[1..close]);
-    write_word(k, rest_rank, &mut object[close + 1..]);
+    write_word(inside_rank, j, &mut object[1..close]);
+    write_word(rest_rank, k, &mut object[close + 1..]);
 }

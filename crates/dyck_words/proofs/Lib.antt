@@ -3,6 +3,7 @@ pub mod Words
 pub mod TreeOrder
 pub mod TreeLists
 pub mod Theorem
+pub mod Laws
 pub mod Dictionary
 pub mod Passing
 pub mod Closing

@@ -8,7 +8,7 @@ use native.Mathlib.Nat.{zero-add, eq-or-lt-of-le}
 use native.Mathlib.Omega.{arith}
 use lib.ListN.{length, getD, set, replicate, length-append, length-set}
 use lib.Seq.{getD-append-add, getD-set-same, getD-set-other}
-use Rattle.numbers.specs.Limits.{places}
+use Rattle.numbers.specs.Limits.{longestObject}
 use Rattle.listings.specs.Bytes.{Bytes}
 use Rattle.dyck_words.specs.Trees.{Tree, leaf, node, word}
 use Rattle.dyck_words.specs.Reading.{RowHere, Stops, Told}
@@ -16,7 +16,7 @@ use Rattle.dyck_words.specs.Reading.{RowHere, Stops, Told}
 -- the table has the rows that start with at most d bytes left
 pub record Filled (x rows : Bytes) (d : ℕ) : Type 0 where
   pub short : d ≤ length x
-  pub room : length rows ≡ places + 1
+  pub room : length rows ≡ longestObject + 1
   pub low : (k : ℕ) → getD rows k 0 ≤ k
   pub tells : (a b : Bytes) (t : Tree) → x ≡ a ++ (word t ++ b) → Stops b → length (word t ++ b) ≤ d → getD rows (length (word t ++ b)) 0 ≡ length (word t)
 
@@ -25,11 +25,11 @@ zeros zero k = refl
 zeros (suc n) zero = refl
 zeros (suc n) (suc k) = zeros n k
 
-pub filled-none : (x : Bytes) → Filled x (replicate (places + 1) 0) 0
+pub filled-none : (x : Bytes) → Filled x (replicate (longestObject + 1) 0) 0
 filled-none x = record {
   short = omega arith;
   room = refl;
-  low = λ k. omega (arith, zeros (places + 1) k);
+  low = λ k. omega (arith, zeros (longestObject + 1) k);
   tells = λ a b t e s h. let none : length (word t ++ b) ≡ 0 = omega arith in rw none (omega (arith, length-append (word t) b));
 }
 
@@ -64,7 +64,7 @@ module _ {x rows : Bytes} {d l : ℕ} (f : Filled x rows d) (here : RowHere (get
       let outer : getD rows (d - getD rows d 0 - 1) 0 ≡ length (word r) = ap (λ k. getD rows k 0) left ∙ rest in
       omega (arith, here .some one (omega arith))
 
-  pub filled-more : d < places → d < length x → Filled x (set rows (d + 1) l) (d + 1)
+  pub filled-more : d < longestObject → d < length x → Filled x (set rows (d + 1) l) (d + 1)
   filled-more small within =
       let same : getD (set rows (d + 1) l) (d + 1) 0 ≡ l = getD-set-same rows (d + 1) l 0 (omega (arith, f .room)) in
       let other : (k : ℕ) → (k ≡ d + 1 → ⊥) → getD (set rows (d + 1) l) k 0 ≡ getD rows k 0 = λ k. getD-set-other rows (d + 1) k l 0 in
@@ -82,7 +82,7 @@ module _ {x rows : Bytes} {d l : ℕ} (f : Filled x rows d) (here : RowHere (get
       }
 
 -- filled for all of x, or for as many places as it has
-pub filled-all : {x rows : Bytes} {d : ℕ} → Filled x rows d → length x ≤ d ⊎ places ≤ d → Told x 0 rows
+pub filled-all : {x rows : Bytes} {d : ℕ} → Filled x rows d → length x ≤ d ⊎ longestObject ≤ d → Told x 0 rows
 filled-all {x} f enough = record {
   low = f .low;
   tells = λ a b t e s h.
@@ -92,7 +92,7 @@ filled-all {x} f enough = record {
 
 -- a word and its parts
 
-pub told-inside : (i r : Tree) {x : Bytes} {after : ℕ} {rows : Bytes} → Told x after rows → x ≡ word (node i r) → after + length x ≤ places + 1
+pub told-inside : (i r : Tree) {x : Bytes} {after : ℕ} {rows : Bytes} → Told x after rows → x ≡ word (node i r) → after + length x ≤ longestObject + 1
     → getD rows (after + length x - 1) 0 ≡ length (word i)
 unfolding word
 told-inside i r {x} {after} {rows} told e small =

@@ -6,10 +6,10 @@ use native.Mathlib.Omega.{arith}
 use lib.ListN.{length}
 use Rattle.listings.specs.Bytes.{Bytes}
 use Rattle.listings.specs.declared.Step.{Step}
-use Rattle.listings.specs.declared.Step.the-variants.{Stepped, End}
+use Rattle.listings.specs.declared.Step.the-variants.{Moved, End}
 use Rattle.dyck_words.specs.Trees.{Tree, leaf, node, word, parse}
 use Rattle.dyck_words.specs.Reading.{Told}
-use Rattle.dyck_words.specs.Moves.{Moved, Parts}
+use Rattle.dyck_words.specs.Moves.{AfterStep, Parts}
 use Rattle.dyck_words.proofs.Words.{parse-word}
 use Rattle.dyck_words.proofs.RowTable.{told-rest, told-part}
 use Rattle.dyck_words.proofs.Lent.{restPart, withRest, insidePart, withInside, rest-lent, rest-put, inside-lent, inside-put}
@@ -68,22 +68,22 @@ module _ {x : Bytes} {len : ℕ} {i r : Tree} (p : Parts x len i r) where
   -- and each has moved on or back, or stands at the edge
 
   module _ (next : Tree → Tree → Type 0) (edge : Tree → Type 0) {s : Step} (y : Bytes) where
-    pub rest-stepped : s ≡ Stepped → Moved next edge (parse (restPart x len)) s y → (u : Tree) × Parts (withRest x len y) len i u × next r u
+    pub rest-stepped : s ≡ Moved → AfterStep next edge (parse (restPart x len)) s y → (u : Tree) × Parts (withRest x len y) len i u × next r u
     rest-stepped e m =
-        let (u, spelled, f) = subst (λ s. Moved next edge (parse (restPart x len)) s y) e m in
+        let (u, spelled, f) = subst (λ s. AfterStep next edge (parse (restPart x len)) s y) e m in
         (u, rest-put p u spelled, subst (λ t. next t u) reads-rest f)
 
-    pub rest-ended : s ≡ End → Moved next edge (parse (restPart x len)) s y → Parts (withRest x len y) len i r × edge r
+    pub rest-ended : s ≡ End → AfterStep next edge (parse (restPart x len)) s y → Parts (withRest x len y) len i r × edge r
     rest-ended e m =
-        let (spelled, f) = subst (λ s. Moved next edge (parse (restPart x len)) s y) e m in
+        let (spelled, f) = subst (λ s. AfterStep next edge (parse (restPart x len)) s y) e m in
         (rest-put p r (spelled ∙ ap word reads-rest), subst edge reads-rest f)
 
-    pub inside-stepped : s ≡ Stepped → length y ≡ length (insidePart x len) → Moved next edge (parse (insidePart x len)) s y → (u : Tree) × Parts (withInside x len y) len u r × next i u
+    pub inside-stepped : s ≡ Moved → length y ≡ length (insidePart x len) → AfterStep next edge (parse (insidePart x len)) s y → (u : Tree) × Parts (withInside x len y) len u r × next i u
     inside-stepped e same m =
-        let (u, spelled, f) = subst (λ s. Moved next edge (parse (insidePart x len)) s y) e m in
+        let (u, spelled, f) = subst (λ s. AfterStep next edge (parse (insidePart x len)) s y) e m in
         (u, inside-put p u spelled same, subst (λ t. next t u) reads-inside f)
 
-    pub inside-ended : s ≡ End → length y ≡ length (insidePart x len) → Moved next edge (parse (insidePart x len)) s y → Parts (withInside x len y) len i r × edge i
+    pub inside-ended : s ≡ End → length y ≡ length (insidePart x len) → AfterStep next edge (parse (insidePart x len)) s y → Parts (withInside x len y) len i r × edge i
     inside-ended e same m =
-        let (spelled, f) = subst (λ s. Moved next edge (parse (insidePart x len)) s y) e m in
+        let (spelled, f) = subst (λ s. AfterStep next edge (parse (insidePart x len)) s y) e m in
         (inside-put p i (spelled ∙ ap word reads-inside) same, subst edge reads-inside f)

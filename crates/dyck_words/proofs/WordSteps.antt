@@ -8,7 +8,7 @@ use Rattle.listings.specs.Calls.{NEXT, PREVIOUS, Said, act}
 use Rattle.listings.specs.Places.{Follows, First, Last}
 use Rattle.listings.specs.Steps.{stepAs}
 use Rattle.listings.specs.declared.Step.{Step}
-use Rattle.listings.specs.declared.Step.the-variants.{Stepped, End}
+use Rattle.listings.specs.declared.Step.the-variants.{Moved, End}
 use Rattle.listings.proofs.PlaceRules.{follows-map, first-map, last-map}
 use Rattle.listings.proofs.Stepping.{next-steps, next-ends, previous-steps, previous-ends}
 use Rattle.dyck_words.specs.Objects.{isDyckWord}
@@ -40,10 +40,10 @@ module _ (n : ℕ) (x : Bytes) (o : isDyckWord n x ≡ true) where
 
   pub said-on : (s : Step) (y : Bytes) → MovedOn (parse x) s y → _≡_ {A = Said} (stepAs s, y) (act NEXT dyckBefore (dyckWords n) x)
   unfolding dyckWords
-  said-on Stepped y (u, e, f) = rw e (next-steps (lists n) (words-follow f))
+  said-on Moved y (u, e, f) = rw e (next-steps (lists n) (words-follow f))
   said-on End y (e, l) = let d = dyck-cases n x o in rw (e, d .spelled) (next-ends (lists n) (rw (d .spelled, d .sized) at (last-map word l)))
 
   pub said-back : (s : Step) (y : Bytes) → MovedBack (parse x) s y → _≡_ {A = Said} (stepAs s, y) (act PREVIOUS dyckBefore (dyckWords n) x)
   unfolding dyckWords
-  said-back Stepped y (u, e, f) = rw e (previous-steps (lists n) (follow-words f))
+  said-back Moved y (u, e, f) = rw e (previous-steps (lists n) (follow-words f))
   said-back End y (e, l) = let d = dyck-cases n x o in rw (e, d .spelled) (previous-ends (lists n) (rw (d .spelled, d .sized) at (first-map word (trees (size (parse x))) l)))

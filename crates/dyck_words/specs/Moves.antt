@@ -6,7 +6,7 @@ use lib.ListN.{length}
 use Rattle.listings.specs.Bytes.{Bytes}
 use Rattle.listings.specs.Places.{Follows, First, Last}
 use Rattle.listings.specs.declared.Step.{Step}
-use Rattle.listings.specs.declared.Step.the-variants.{Stepped, End}
+use Rattle.listings.specs.declared.Step.the-variants.{Moved, End}
 use Rattle.dyck_words.specs.Trees.{Tree, leaf, node, size, word}
 use Rattle.dyck_words.specs.Listing.{trees}
 
@@ -35,15 +35,15 @@ abbrev pub AtLast : Tree → Type 0
 AtLast t = Last (trees (size t)) t
 
 -- a step from the word of t answered s and left the bytes y: the word of the next tree, or, where t stands at the edge, its own
-abbrev pub Moved : (Tree → Tree → Type 0) → (Tree → Type 0) → Tree → Step → Bytes → Type 0
-Moved next edge t Stepped y = (u : Tree) × (y ≡ word u) × next t u
-Moved next edge t End y = (y ≡ word t) × edge t
+abbrev pub AfterStep : (Tree → Tree → Type 0) → (Tree → Type 0) → Tree → Step → Bytes → Type 0
+AfterStep next edge t Moved y = (u : Tree) × (y ≡ word u) × next t u
+AfterStep next edge t End y = (y ≡ word t) × edge t
 
 abbrev pub MovedOn : Tree → Step → Bytes → Type 0
-MovedOn = Moved Onward AtLast
+MovedOn = AfterStep Onward AtLast
 
 abbrev pub MovedBack : Tree → Step → Bytes → Type 0
-MovedBack = Moved Backward AtFirst
+MovedBack = AfterStep Backward AtFirst
 
 -- x is 1, the word of i, of the length len, 0, and the word of r
 pub record Parts (x : Bytes) (len : ℕ) (i r : Tree) : Type 0 where

@@ -5,7 +5,7 @@ use mathlib.Core.Bool.{false}
 use mathlib.Core.List.{[], _∷_, _++_}
 use Prim.Native.Nat.{ℕ, zero, suc, _+_, _-_, _≤_, _<_}
 use lib.ListN.{length, getD, drop}
-use Rattle.numbers.specs.Limits.{places}
+use Rattle.numbers.specs.Limits.{longestObject}
 use Rattle.listings.specs.Bytes.{Bytes}
 use Rattle.dyck_words.specs.declared.reading.Read.{Read}
 use Rattle.dyck_words.specs.declared.reading.Read.the-variants.{To, Broken}
@@ -55,5 +55,5 @@ Stops y = getD y 0 0 ≡ 1 → ⊥
 -- the table has the length of each row of x, by how many bytes are left where it starts; `after` more are left behind x
 pub record Told (x : Bytes) (after : ℕ) (rows : Bytes) : Type 0 where
   pub low : (k : ℕ) → getD rows k 0 ≤ k
-  pub tells : (a b : Bytes) (t : Tree) → x ≡ a ++ (word t ++ b) → Stops b → after + length (word t ++ b) ≤ places
+  pub tells : (a b : Bytes) (t : Tree) → x ≡ a ++ (word t ++ b) → Stops b → after + length (word t ++ b) ≤ longestObject
       → getD rows (after + length (word t ++ b)) 0 ≡ length (word t)

@@ -17,6 +17,7 @@ mod reading;
 mod stepping;
 
 use listings::Step;
+pub use reading::ROWS;
 use reading::Read;
 pub use reading::inside_len;
 pub use reading::row_lengths;

@@ -4,9 +4,13 @@
 ghost use mathlib.Core.Path.{_≡_};
 ghost use Prim.Native.Nat.{ℕ, _+_, _≤_, _<_, _^_};
 ghost use lib.ListN.{length, getD};
-ghost use Rattle.numbers.specs.Limits.{places};
+ghost use Rattle.numbers.specs.Limits.{longestObject};
 ghost use Rattle.dyck_words.specs.Reading.{RowRead, BranchRead, RowHere, Told};
 ghost use Rattle.dyck_words.specs.Trees.{Tree, node, word};
+use numbers::LONGEST_OBJECT;
+
+// As many rows as the table has: one for each number of bytes that may be left.
+pub const ROWS: usize = LONGEST_OBJECT + 1;
 
 // How far a reader came, or that no word stands there.
 pub enum Read {
@@ -49,8 +53,8 @@ fn branch(object: &[u8], at: usize) -> Read
 }
 
 // How long the row is that starts with the byte first, in front of d bytes whose rows the table has: 1, an inside, 0, a rest.
-fn row_here(first: u8, rows: &[u8; 81], d: usize) -> u8
-    requires { ⌜ (d < places) × ((k : ℕ) → getD (now rows) k 0 ≤ k) ⌝ }
+fn row_here(first: u8, rows: &[u8; ROWS], d: usize) -> u8
+    requires { ⌜ (d < longestObject) × ((k : ℕ) → getD (now rows) k 0 ≤ k) ⌝ }
     ensures { λ r. ⌜ RowHere first (now (rows .entry)) d r ⌝ }
 {
     if first != 1 {
@@ -63,14 +67,14 @@ fn row_here(first: u8, rows: &[u8; 81], d: usize) -> u8
     rows[d] + 2 + rows[d - inside - 1]
 }
 
-// The table: for each of the last 80 places, by how many bytes are left there, how long the row is that starts there. One pass from the
-// right.
-pub fn row_lengths(object: &[u8]) -> [u8; 81]
+// The table: for each place of a word that an object may be, by how many bytes are left there, how long the row is that starts there. One pass
+// from the right.
+pub fn row_lengths(object: &[u8]) -> [u8; ROWS]
     ensures { λ r. ⌜ Told (now (object .entry)) 0 r ⌝ }
 {
-    let mut rows = [0u8; 81];
+    let mut rows = [0u8; ROWS];
     let mut d = 0;
-    while d < 80 {
+    while d < LONGEST_OBJECT {
         if object.len() <= d {
             return rows;
         }
@@ -81,15 +85,15 @@ pub fn row_lengths(object: &[u8]) -> [u8; 81]
     rows
 }
 
-// How long the inside is of a word that isn't empty, with after more bytes behind it. The table has it; only in a word of more than 80
-// bytes, which no family has, is its row read.
-pub fn inside_len(object: &[u8], rows: &[u8; 81], after: usize) -> usize
+// How long the inside is of a word that isn't empty, with after more bytes behind it. The table has it; only in a longer word, which no family
+// has, is its row read.
+pub fn inside_len(object: &[u8], rows: &[u8; ROWS], after: usize) -> usize
     requires { ⌜ (0 < length (now object)) × (after + length (now object) < 2 ^ 64) ⌝ }
     requires { ⌜ Told (now object) after (now rows) ⌝ }
     ensures { λ r. ⌜ ((i u : Tree) → now (object .entry) ≡ word (node i u) → r ≡ length (word i)) ⌝ }
 {
     let left = after + object.len() - 1;
-    if left <= 80 {
+    if left <= LONGEST_OBJECT {
         return rows[left] as usize;
     }
     let Read::To(end) = row(object, 1) else {

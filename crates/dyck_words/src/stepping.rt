@@ -6,6 +6,7 @@ ghost use lib.ListN.{length};
 ghost use Rattle.dyck_words.specs.Trees.{Tree, node, word, parse};
 ghost use Rattle.dyck_words.specs.Moves.{firstTree, lastTree, AtFirst, AtLast, MovedOn, MovedBack, Parts};
 ghost use Rattle.dyck_words.specs.Reading.{Told};
+use crate::reading::ROWS;
 use crate::reading::inside_len;
 use listings::Step;
 
@@ -41,11 +42,11 @@ fn longer_inside(object: &mut [u8], len: usize) -> Step
     write_first(&mut object[1..close]);
     object[close] = 0;
     write_first(&mut object[close + 1..]);
-    Step::Stepped
+    Step::Moved
 }
 
 // The rest, or the inside with the earliest rest, or a longer inside.
-pub fn step_on(object: &mut [u8], rows: &[u8; 81], after: usize) -> Step
+pub fn step_on(object: &mut [u8], rows: &[u8; ROWS], after: usize) -> Step
     requires { ⌜ word (parse (now object)) ≡ now object ⌝ }
     requires { ⌜ (after + length (now object) < 2 ^ 64) × Told (now object) after (now rows) ⌝ }
     ensures { λ s. ⌜ MovedOn (parse (now (object .entry))) s (now (object .exit)) ⌝ }
@@ -56,15 +57,15 @@ pub fn step_on(object: &mut [u8], rows: &[u8; 81], after: usize) -> Step
     let len = inside_len(object, rows, after);
     let rest = len + 2;
     let Step::End = step_on(&mut object[rest..], rows, after) else {
-        return Step::Stepped;
+        return Step::Moved;
     };
     let close = len + 1;
     let behind = after + (object.len() - close);
-    let Step::Stepped = step_on(&mut object[1..close], rows, behind) else {
+    let Step::Moved = step_on(&mut object[1..close], rows, behind) else {
         return longer_inside(object, len);
     };
     write_first(&mut object[rest..]);
-    Step::Stepped
+    Step::Moved
 }
 
 // The latest word whose inside is shorter by one branch, or END where there is no inside.
@@ -79,11 +80,11 @@ fn shorter_inside(object: &mut [u8], len: usize) -> Step
     write_last(&mut object[1..close]);
     object[close] = 0;
     write_last(&mut object[close + 1..]);
-    Step::Stepped
+    Step::Moved
 }
 
 // The rest, or the inside with the latest rest, or a shorter inside.
-pub fn step_back(object: &mut [u8], rows: &[u8; 81], after: usize) -> Step
+pub fn step_back(object: &mut [u8], rows: &[u8; ROWS], after: usize) -> Step
     requires { ⌜ word (parse (now object)) ≡ now object ⌝ }
     requires { ⌜ (after + length (now object) < 2 ^ 64) × Told (now object) after (now rows) ⌝ }
     ensures { λ s. ⌜ MovedBack (parse (now (object .entry))) s (now (object .exit)) ⌝ }
@@ -94,13 +95,13 @@ pub fn step_back(object: &mut [u8], rows: &[u8; 81], after: usize) -> Step
     let len = inside_len(object, rows, after);
     let rest = len + 2;
     let Step::End = step_back(&mut object[rest..], rows, after) else {
-        return Step::Stepped;
+        return Step::Moved;
     };
     let close = len + 1;
     let behind = after + (object.len() - close);
-    let Step::Stepped = step_back(&mut object[1..close], rows, behind) else {
+    let Step::Moved = step_back(&mut object[1..close], rows, behind) else {
         return shorter_inside(object, len);
     };
     write_last(&mut object[rest..]);
-    Step::Stepped
+    Step::Moved
 }

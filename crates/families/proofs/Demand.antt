@@ -17,61 +17,62 @@ use Rattle.listings.proofs.Walks.{passes}
 use Rattle.listings.proofs.Standing.{object-at, stands-at-rank}
 use Rattle.listings.specs.Places.{countBefore}
 use Rattle.families.specs.declared.Family.{Family}
-use Rattle.families.specs.Table.{Lent, objectLength}
-use Rattle.families.specs.Objects.{isObject, comesBefore}
-use Rattle.families.specs.Listing.{listing, countOf}
-use Rattle.families.specs.Questions.{opening, refusal}
+use Rattle.families.specs.Table.{Lent}
+use Rattle.families.specs.Families.{objectLength, isObject, comesBefore, listing, countOf}
+use Rattle.families.specs.Questions.{asked, isIn, opening, refusal}
 use Rattle.families.specs.Calls.{respond, run}
 use Rattle.families.specs.Marker.{marker}
-use Rattle.families.proofs.Listings.{listed, lawful}
-use Rattle.families.proofs.Asking.{asks-enough, first-passes, last-passes, next-passes, previous-passes, unrank-passes, rank-passes, rank-asked, unrank-asked}
+use Rattle.families.proofs.FamilyFacts.{listed, lawful}
+use Rattle.families.proofs.Verdicts.{asks-enough, fits-asked, opening-asked, first-passes, last-passes, next-passes, previous-passes, rank-passes, unrank-passes}
 
 module _ (f : Family) (b : Lent) where
   -- "a single claim about the whole list of calls, of any length"
-  pub calls-are-the-marker : (s : Bytes) (cs : List Call) → run f b s cs ≡ marker f b s cs
+  pub calls-are-the-marker : (s : Bytes) (cs : List Call) → run cs f b s ≡ marker cs f b s
   unfolding run respond marker answering
   calls-are-the-marker s cs = marks.calls-are-the-marker (lawful f b) (asks-enough f b) s cs
 
   module _ (s : Bytes) (admitted : firstNo (opening FIRST f b) ≡ none) (fits : length s ≡ objectLength f b) where
     -- FIRST and then NEXT until END gives the listing
-    pub first-on : (m : ℕ) → countOf f b ≤ m → untilEnd (run f b s (FIRST ∷ replicate m NEXT)) ≡ some (listing f b)
+    pub first-on : (m : ℕ) → countOf f b ≤ m → untilEnd (run (FIRST ∷ replicate m NEXT) f b s) ≡ some (listing f b)
     unfolding run respond countOf answering
     first-on m h = walks.first-on (lawful f b) (asks-enough f b) s (first-passes f b (length s) (isObject f b s) admitted fits) (next-passes f b (length s) admitted fits) m h
 
     -- LAST and then PREVIOUS until END gives it backwards
-    pub last-back : (m : ℕ) → countOf f b ≤ m → untilEnd (run f b s (LAST ∷ replicate m PREVIOUS)) ≡ some (reverse (listing f b))
+    pub last-back : (m : ℕ) → countOf f b ≤ m → untilEnd (run (LAST ∷ replicate m PREVIOUS) f b s) ≡ some (reverse (listing f b))
     unfolding run respond countOf answering
     last-back m h = walks.last-back (lawful f b) (asks-enough f b) s (last-passes f b (length s) (isObject f b s) admitted fits) (previous-passes f b (length s) admitted fits) m h
 
     -- UNRANK of 0 to the count less one gives it too
-    pub every-rank : countOf f b < 2 ^ 64 → bytesOf (run f b s (unranks 0 (countOf f b))) ≡ listing f b
+    pub every-rank : countOf f b < 2 ^ 64 → bytesOf (run (unranks 0 (countOf f b)) f b s) ≡ listing f b
     unfolding run respond countOf answering
     every-rank h = walks.every-rank (lawful f b) (asks-enough f b) s (λ r holds lt. unrank-passes f b r (length s) holds admitted h fits lt)
 
   -- "Undo must give the very bytes back": m NEXT without END and m PREVIOUS, whatever the bytes
-  pub back-again : (m : ℕ) (s : Bytes) → untilEnd (run f b s (replicate m NEXT)) ≡ none → finally s (run f b s (replicate m NEXT ++ replicate m PREVIOUS)) ≡ s
+  pub back-again : (m : ℕ) (s : Bytes) → untilEnd (run (replicate m NEXT) f b s) ≡ none → finally s (run (replicate m NEXT ++ replicate m PREVIOUS) f b s) ≡ s
   unfolding run respond answering
   back-again m s h = walks.back-again (lawful f b) (asks-enough f b) m s h
 
   -- rank and unrank lead back to each other, over any bytes of the object's length
   pub rank-back : (x y : Bytes) (r : ℕ) → respond RANK f b x ≡ (RANKED r, x) → length y ≡ length x → respond (UNRANK r) f b y ≡ (WRITTEN, x)
-  unfolding respond answering judged act countOf
+  unfolding respond answering judged act countOf asked isIn
   rank-back x y r ranked same-length =
-      let pass = passes (refusal f b RANK (length x) (isObject f b x)) x ranked (λ q e. let z : _≡_ {A = ℕ} 0 1 = cc in omega arith) in
-      let asked = rank-asked f b (length x) (isObject f b x) (pass .0) in
-      let rank : countBefore (comesBefore f) x (listing f b) ≡ r = cc (ap (λ (s : Said). s .0) (pass .1)) in
+      let pass = passes (refusal RANK f b (length x) (isObject f b x)) x ranked (λ q e. let z : _≡_ {A = ℕ} 0 1 = cc in omega arith) in
+      let opens = opening-asked f b RANK (length x) (isObject f b x) refl (pass .0) in
+      let fits = fits-asked f b RANK (length x) (isObject f b x) refl (pass .0) in
+      let rank : countBefore (comesBefore f b) x (listing f b) ≡ r = cc (ap (λ (s : Said). s .0) (pass .1)) in
       let at = stands-at-rank (listed f b) x (asks-enough f b .reads RANK (length x) (isObject f b x) refl (pass .0)) in
       let long = asks-enough f b .sized RANK (length x) (isObject f b x) refl (pass .0) in
       walks.rank-back (lawful f b) (asks-enough f b) x y r ranked
-      (unrank-passes f b r (length y) (isObject f b y) (asked .0) (asked .1) (same-length ∙ long) (rw rank at (at .inside)))
+      (unrank-passes f b r (length y) (isObject f b y) opens fits (same-length ∙ long) (rw rank at (at .inside)))
 
   pub unrank-back : (x y : Bytes) (r : ℕ) → respond (UNRANK r) f b y ≡ (WRITTEN, x) → respond RANK f b x ≡ (RANKED r, x)
-  unfolding respond answering judged act countOf
+  unfolding respond answering judged act countOf asked isIn
   unrank-back x y r written =
-      let pass = passes (refusal f b (UNRANK r) (length y) (isObject f b y)) y written (λ q e. let z : _≡_ {A = ℕ} 0 1 = cc in omega arith) in
-      let asked = unrank-asked f b r (length y) (isObject f b y) (pass .0) in
+      let pass = passes (refusal (UNRANK r) f b (length y) (isObject f b y)) y written (λ q e. let z : _≡_ {A = ℕ} 0 1 = cc in omega arith) in
+      let opens = opening-asked f b (UNRANK r) (length y) (isObject f b y) refl (pass .0) in
+      let fits = fits-asked f b (UNRANK r) (length y) (isObject f b y) refl (pass .0) in
       let below = asks-enough f b .below r (length y) (isObject f b y) (pass .0) in
       let there : getD (listing f b) r y ≡ x = ap (λ (s : Said). s .1) (pass .1) in
       let object : isObject f b x ≡ true = rw there at (object-at (listed f b) r y below) in
       walks.unrank-back (lawful f b) (asks-enough f b) x y r written
-      (rw object (rank-passes f b (length x) (asked .0) (asked .1) (lawful f b .long x object)))
+      (rw object (rank-passes f b (length x) opens fits (lawful f b .long x object)))

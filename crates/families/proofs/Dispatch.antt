@@ -1,186 +1,131 @@
--- What a call knows when it hands a family to its kind: the family's bounds, listing, order, objects and count as that kind's own.
+-- What a call knows when it hands a family to its kind: the family's listing, order, objects and count as the kind's row says them.
 -- Assumes nothing.
-use mathlib.Core.Path.{_≡_, refl, sym, _∙_, ap}
-use mathlib.Core.Bool.{true, _&&_, _||_, false≢true}
+use mathlib.Core.Path.{_≡_, refl, sym, _∙_, ap, subst}
+use mathlib.Core.Bool.{Bool, true, _&&_, _||_}
 use mathlib.Core.Logic.{⊎-elim}
-use mathlib.Core.List.{List}
-use Prim.Native.Nat.{ℕ, _≤_, _<_}
+use mathlib.Core.List.{List, [], _∷_, map}
+use Prim.Native.Nat.{ℕ, zero, suc, _≤_, _<_, min}
+use native.Mathlib.Nat.{min-eq-left, min-eq-right}
 use native.Mathlib.Omega.{arith}
+use native.Mathlib.Decide.{decLe}
 use lib.Dec.{leb, ltb, eqb}
-use lib.ListN.{length}
-use borrow.Author.Tests.{leb-true, ltb-true, eqb-true, lt-ltb}
-use Rattle.numbers.specs.Limits.{places, branches}
+use lib.ListN.{length, getD}
+use borrow.Author.Tests.{leb-true, ltb-true, eqb-true, lt-ltb, lt-leb}
+use Rattle.numbers.specs.Limits.{places, longestObject}
 use Rattle.numbers.specs.Sums.{total}
 use Rattle.listings.specs.Bytes.{Bytes}
+use Rattle.listings.specs.Rows.{Row}
 use Rattle.listings.proofs.Bools.{and-true, or-cases}
 use Rattle.families.specs.declared.Family.{Family}
-use Rattle.families.specs.Table.{Lent, Kind, subset, anagram, permutation, setPartition, integerPartition, dyckWord, unknown, kindOf, isKind, bounds, inTable, countsFit, listsFit, allowed, lengthOf, objectLength, hasObject}
-use Rattle.families.specs.Objects.{isObject, objectOf, comesBefore, orderOf}
-use Rattle.families.specs.Listing.{listing, listingOf, ifAllowed, countOf}
-use Rattle.families.specs.Numbers.{numberOf}
-use Rattle.families.proofs.Listings.{lawful, count-is}
-use Rattle.families.proofs.Empty.{has-object}
+use Rattle.families.specs.Table.{Lent, anagramRow, noRow, table}
+use Rattle.families.specs.Families.{row, allowed, objectLength, isObject, comesBefore, listing, countOf}
+use Rattle.families.proofs.FamilyFacts.{lawful, object-allowed, bounded, fitting, count-is, has-object, short}
 
--- the number of a kind in the table, as the code matches on it
-abbrev pub number : Kind → ℕ
-number subset = 1
-number anagram = 2
-number permutation = 3
-number setPartition = 4
-number integerPartition = 5
-number dyckWord = 6
-number unknown = 0
+-- the family's facts as a row says them
+pub record Handed (f : Family) (b : Lent) (r : Row) : Type 0 where
+  pub bounds : r .inBounds ≡ true
+  pub fits : r .listsFit ≡ true
+  pub short : r .objectLength ≤ longestObject
+  pub long : objectLength f b ≡ r .objectLength
+  pub lists : listing f b ≡ r .listing
+  pub orders : comesBefore f b ≡ r .comesBefore
+  pub objects : (x : Bytes) → isObject f b x ≡ r .isObject x
+  pub counted : countOf f b ≡ r .number
+  pub some : 0 < countOf f b → r .hasObject ≡ true
 
-numbered : (κ : Kind) → kindOf (number κ) ≡ κ
-unfolding kindOf
-numbered subset = refl
-numbered anagram = refl
-numbered permutation = refl
-numbered setPartition = refl
-numbered integerPartition = refl
-numbered dyckWord = refl
-numbered unknown = refl
-
--- the family's facts as the kind κ says them of n and k
-pub record Handed (κ : Kind) (f : Family) (b : Lent) (n k : ℕ) : Type 0 where
-  pub small : n ≤ places
-  pub letters : length (b .counts) ≤ places
-  pub short : lengthOf κ n k (b .counts) ≤ places
-  pub long : objectLength f b ≡ lengthOf κ n k (b .counts)
-  pub lists : listing f b ≡ listingOf κ n k (b .counts)
-  pub orders : comesBefore f ≡ orderOf κ
-  pub objects : (x : Bytes) → isObject f b x ≡ objectOf κ n k (b .counts) x
-  pub counted : countOf f b ≡ numberOf κ n k (b .counts)
-  pub some : 0 < countOf f b → hasObject κ n k ≡ true
-
-none-lent : (cs : List ℕ) → eqb (length cs) 0 ≡ true → length cs ≤ places
-none-lent cs e = omega (arith, eqb-true (length cs) 0 e)
-
--- "A family has no more than 80 places"
-within : (κ : Kind) (n k : ℕ) (cs : List ℕ) → bounds κ n k ≡ true → countsFit κ n cs ≡ true → (n ≤ places) × (length cs ≤ places) × (lengthOf κ n k cs ≤ places)
-unfolding bounds countsFit lengthOf
-within subset n k cs e h =
-    let p = and-true (leb n places) (leb k places) e in
-    (leb-true n places (p .0), none-lent cs h, leb-true k places (p .1))
-within anagram n k cs e h =
-    let p = and-true (leb n places) (eqb k 0) e in
-    let q = and-true (eqb (length cs) n) (leb (total cs) places) h in
-    let small = leb-true n places (p .0) in
-    (small, omega (arith, eqb-true (length cs) n (q .0)), leb-true (total cs) places (q .1))
-within permutation n k cs e h =
-    let small = leb-true n places (and-true (leb n places) (eqb k 0) e .0) in
-    (small, none-lent cs h, small)
-within setPartition n k cs e h =
-    let small = leb-true n places (and-true (leb n places) (leb k places) e .0) in
-    (small, none-lent cs h, small)
-within integerPartition n k cs e h =
-    let p = and-true (leb n places) (leb k places) e in
-    (leb-true n places (p .0), none-lent cs h, leb-true k places (p .1))
-within dyckWord n k cs e h =
-    let small = leb-true n branches (and-true (leb n branches) (eqb k 0) e .0) in
-    (omega arith, none-lent cs h, omega arith)
-within unknown n k cs e h = absurd (false≢true e)
-
--- questions 1 to 3, one by one
-asked : (f : Family) (b : Lent) → allowed f b ≡ true → (isKind f ≡ true) × (inTable f ≡ true) × (listsFit f b ≡ true)
-unfolding allowed
-asked f b a =
-    let p = and-true (isKind f && inTable f) (listsFit f b) a in
-    let q = and-true (isKind f) (inTable f) (p .0) in
-    (q .0, q .1, p .1)
-
--- "Is the kind 1 to 6?"
-pub kind-within : (f : Family) (b : Lent) → allowed f b ≡ true → (1 ≤ f .kind) × (f .kind ≤ 6)
-unfolding isKind
-kind-within f b a =
-    let p = and-true (leb 1 (f .kind)) (leb (f .kind) 6) (asked f b a .0) in
-    (leb-true 1 (f .kind) (p .0), leb-true (f .kind) 6 (p .1))
-
--- a family that the table allows, by its own n and k
-pub handed : (f : Family) (b : Lent) (κ : Kind) → f .kind ≡ number κ → allowed f b ≡ true → Handed κ f b (f .n) (f .k)
-unfolding inTable listsFit listing ifAllowed comesBefore isObject objectLength
-handed f b κ e a =
-    let is : kindOf (f .kind) ≡ κ = ap kindOf e ∙ numbered κ in
-    let p = asked f b a in
-    let w = within κ (f .n) (f .k) (b .counts) (rw is at (p .1)) (rw is at (p .2)) in
+by-row : (f : Family) (b : Lent) → allowed f b ≡ true → Handed f b (row f b)
+unfolding objectLength listing comesBefore isObject
+by-row f b a =
     record {
-      small = w .0;
-      letters = w .1;
-      short = w .2;
-      long = rw is;
-      lists = rw (a, is);
-      orders = rw is;
-      objects = λ x. rw (a, is);
-      counted = rw is at (count-is f b a);
-      some = λ h. rw is at (sym (has-object f b a) ∙ lt-ltb 0 (countOf f b) h);
+      bounds = bounded f b a;
+      fits = fitting f b a;
+      short = short f b a;
+      long = refl;
+      lists = rw a;
+      orders = refl;
+      objects = λ x. rw a;
+      counted = count-is f b a;
+      some = λ h. sym (has-object f b a) ∙ lt-ltb 0 (countOf f b) h;
     }
 
--- n and k as a kind's functions read them off an object, whose length says one of them
+-- the row of a kind for the family g
+abbrev pub rowAt : ℕ → Family → Lent → Row
+rowAt kind g b = getD (table g b) kind (noRow b)
 
-abbrev pub nAt : Kind → ℕ → Bytes → ℕ
-nAt subset n x = n
-nAt anagram n x = n
-nAt permutation n x = length x
-nAt setPartition n x = length x
-nAt integerPartition n x = n
-nAt dyckWord n x = n
-nAt unknown n x = n
+-- a family that the table allows, handed to the kind that its number names
+pub handed : (kind : ℕ) (f : Family) (b : Lent) → f .kind ≡ kind → allowed f b ≡ true → Handed f b (rowAt kind f b)
+unfolding row
+handed kind f b e a = subst (λ (κ : ℕ). Handed f b (rowAt κ f b)) e (by-row f b a)
 
-abbrev pub kAt : Kind → ℕ → Bytes → ℕ
-kAt subset k x = length x
-kAt anagram k x = k
-kAt permutation k x = k
-kAt setPartition k x = k
-kAt integerPartition k x = length x
-kAt dyckWord k x = k
-kAt unknown k x = k
+-- a kind's functions read n or k off an object whose length it is
 
-read-off : (κ : Kind) (n k : ℕ) (cs : List ℕ) (x : Bytes) → length x ≡ lengthOf κ n k cs → (nAt κ n x ≡ n) × (kAt κ k x ≡ k)
-unfolding lengthOf
-read-off subset n k cs x h = (refl, h)
-read-off anagram n k cs x h = (refl, refl)
-read-off permutation n k cs x h = (h, refl)
-read-off setPartition n k cs x h = (h, refl)
-read-off integerPartition n k cs x h = (refl, h)
-read-off dyckWord n k cs x h = (refl, refl)
-read-off unknown n k cs x h = (refl, refl)
+abbrev pub withSizes : Family → ℕ → ℕ → Family
+withSizes f n k = record { kind = f .kind; n = n; k = k }
 
--- a family handed to its kind with the bytes x
-abbrev pub Turn : Kind → Family → Lent → Bytes → Type 0
-Turn κ f b x = Handed κ f b (nAt κ (f .n) x) (kAt κ (f .k) x)
+abbrev pub withN : Family → ℕ → Family
+withN f n = withSizes f n (f .k)
 
--- bytes of the object's length
-pub with-buffer : (f : Family) (b : Lent) (x : Bytes) (κ : Kind) → f .kind ≡ number κ → allowed f b ≡ true → length x ≡ objectLength f b → Turn κ f b x
-with-buffer f b x κ e a h =
-    let whole = handed f b κ e a in
-    let p = read-off κ (f .n) (f .k) (b .counts) x (h ∙ whole .long) in
-    rw (p .0, p .1) whole
+abbrev pub withK : Family → ℕ → Family
+withK f k = withSizes f (f .n) k
 
--- what the table doesn't allow has no object
-pub object-allowed : (f : Family) (b : Lent) (x : Bytes) → isObject f b x ≡ true → allowed f b ≡ true
-unfolding isObject
-object-allowed f b x o = and-true (allowed f b) (objectOf (kindOf (f .kind)) (f .n) (f .k) (b .counts) x) o .0
+module _ (kind : ℕ) (f : Family) (b : Lent) (x : Bytes) (e : f .kind ≡ kind) where
+  -- bytes of the object's length
 
--- bytes that are an object
-pub with-object : (f : Family) (b : Lent) (x : Bytes) (κ : Kind) → f .kind ≡ number κ → isObject f b x ≡ true → Turn κ f b x
-with-object f b x κ e o = with-buffer f b x κ e (object-allowed f b x o) (lawful f b .long x o)
+  pub long-n : allowed f b ≡ true → length x ≡ objectLength f b → rowAt kind f b .objectLength ≡ f .n → Handed f b (rowAt kind (withN f (length x)) b)
+  long-n a h is-n =
+      let t = handed kind f b e a in
+      subst (λ (n : ℕ). Handed f b (rowAt kind (withN f n) b)) (sym (h ∙ t .long ∙ is-n)) t
 
--- "Kinds 1, 4 and 5 have no object when k > n; kinds 4 and 5 have none when k = 0 < n"
+  pub long-k : allowed f b ≡ true → length x ≡ objectLength f b → rowAt kind f b .objectLength ≡ f .k → Handed f b (rowAt kind (withK f (length x)) b)
+  long-k a h is-k =
+      let t = handed kind f b e a in
+      subst (λ (k : ℕ). Handed f b (rowAt kind (withK f k) b)) (sym (h ∙ t .long ∙ is-k)) t
 
-no-fewer : (n k : ℕ) → (leb k n && (ltb 0 k || eqb n 0)) ≡ true → (k ≤ n) × (k ≡ 0 → n ≡ 0)
-no-fewer n k e =
+  -- bytes that are an object
+  module _ (o : isObject f b x ≡ true) where
+    pub object : Handed f b (rowAt kind f b)
+    object = handed kind f b e (object-allowed f b x o)
+
+    pub object-n : rowAt kind f b .objectLength ≡ f .n → Handed f b (rowAt kind (withN f (length x)) b)
+    object-n is-n = long-n (object-allowed f b x o) (lawful f b .long x o) is-n
+
+    pub object-k : rowAt kind f b .objectLength ≡ f .k → Handed f b (rowAt kind (withK f (length x)) b)
+    object-k is-k = long-k (object-allowed f b x o) (lawful f b .long x o) is-k
+
+-- what the columns say in plain facts
+
+-- the first of two bounds
+pub n-within : (n limit : ℕ) (t : Bool) → (leb n limit && t) ≡ true → n ≤ limit
+n-within n limit t e = leb-true n limit (and-true (leb n limit) t e .0)
+
+-- the letters of an anagram are as many as n says, and their counts sum to no more than the places
+module _ {f : Family} {b : Lent} (t : Handed f b (rowAt 2 f b)) where
+  pub letters-fit : length (b .counts) ≤ longestObject
+  unfolding table anagramRow
+  letters-fit =
+      let many = and-true (eqb (length (b .counts)) (f .n)) (leb (total (b .counts)) places) (t .fits) .0 in
+      omega (arith, n-within (f .n) places (eqb (f .k) 0) (t .bounds), eqb-true (length (b .counts)) (f .n) many)
+
+  pub sum-fits : leb (total (b .counts)) places ≡ true
+  unfolding table anagramRow
+  sum-fits = and-true (eqb (length (b .counts)) (f .n)) (leb (total (b .counts)) places) (t .fits) .1
+
+-- "no object when k > n", "none when k = 0 < n"
+pub shared : (n k : ℕ) → (leb k n && (ltb 0 k || eqb n 0)) ≡ true → (k ≤ n) × (k ≡ 0 → n ≡ 0)
+shared n k e =
     let p = and-true (leb k n) (ltb 0 k || eqb n 0) e in
     (leb-true k n (p .0), ⊎-elim (λ w z. omega (arith, ltb-true 0 k w)) (λ w z. eqb-true n 0 w) (or-cases (ltb 0 k) (eqb n 0) (p .1)))
 
-module _ {f : Family} {b : Lent} {n k : ℕ} where
-  pub subset-some : Handed subset f b n k → 0 < countOf f b → k ≤ n
-  unfolding hasObject
-  subset-some t h = leb-true k n (t .some h)
+-- a sum that is counted only to just above a limit is within the limit where the whole sum is
+pub to-limit : (v m : ℕ) → leb (min v (suc m)) m ≡ leb v m
+to-limit v m =
+    elim (decLe v m) [
+      | yes h ↦ rw (min-eq-left {n = v} {m = suc m} (omega arith))
+      | no h ↦ rw (min-eq-right {n = suc m} {m = v} (omega arith), lt-leb (suc m) m (omega arith), lt-leb v m (omega arith))
+    ]
 
-  pub blocks-some : Handed setPartition f b n k → 0 < countOf f b → (k ≤ n) × (k ≡ 0 → n ≡ 0)
-  unfolding hasObject
-  blocks-some t h = no-fewer n k (t .some h)
-
-  pub parts-some : Handed integerPartition f b n k → 0 < countOf f b → (k ≤ n) × (k ≡ 0 → n ≡ 0)
-  unfolding hasObject
-  parts-some t h = no-fewer n k (t .some h)
+-- a list read by its place in code is what is lent there
+pub read-list : {A : Type 0} (g : A → List ℕ) (l : List A) (i : ℕ) (d : A) → g (getD l i d) ≡ getD (map g l) i (g d)
+read-list g [] i d = refl
+read-list g (x ∷ l) zero d = refl
+read-list g (x ∷ l) (suc i) d = read-list g l i d

@@ -1,12 +1,12 @@
--- The theorems about families: that each listing is the listing, its count, what the questions ask, and demand 3.
-pub mod TableFacts
-pub mod ByKind
-pub mod Listings
+-- The theorems about families: that each listing is the listing, its count, what the questions ask, how calls go through a listing, and demand 3.
+pub mod QuestionLaws
+pub mod RowsHold
+pub mod FamilyFacts
+pub mod Dispatch
 pub mod CountAnswers
-pub mod Empty
-pub mod Asking
 pub mod Verdicts
 pub mod Responses
+pub mod Going
 pub mod Demand
+pub mod Refusals
 pub mod Cases
-pub mod Dispatch

@@ -1,25 +1,32 @@
--- The questions as the code puts them: one that isn't put to a call counts as a yes, and the first no is the answer.
+-- The questions as the code puts them: what a verdict says of the questions, and the family's questions one by one.
 -- Assumes nothing.
 use mathlib.Core.Path.{_≡_, refl, sym, _∙_, ap}
-use mathlib.Core.Bool.{Bool, true, false, not}
-use mathlib.Core.Option.{Option, none}
-use Prim.Native.Nat.{ℕ, _^_}
-use lib.Dec.{ltb, eqb}
-use borrow.Author.Tests.{not-true, not-false}
-use Rattle.listings.specs.Calls.{Call, COUNT, FIRST, LAST, NEXT, PREVIOUS, RANK, UNRANK, orElse, firstNo}
+use mathlib.Core.Bool.{Bool, true, false, not, false≢true}
+use mathlib.Core.Option.{Option, none, some, Option·some-injective, Option·some-ne-none}
+use mathlib.Core.List.{[], _∷_, _++_}
+use Prim.Native.Nat.{ℕ, _<_, _^_}
+use native.Mathlib.Omega.{arith}
+use lib.Dec.{ltb}
+use borrow.Author.Tests.{not-true, not-false, ltb-true}
+use Rattle.listings.specs.Calls.{Call, FIRST, LAST, NEXT, PREVIOUS, RANK, UNRANK, Question, orElse, firstNo}
+use Rattle.listings.proofs.Demand.{Asks}
 use Rattle.families.specs.declared.Family.{Family}
 use Rattle.families.specs.declared.questions.Verdict.{Verdict}
-use Rattle.families.specs.Table.{Lent, kindOf, isKind, inTable, listsFit, allowed, objectLength, hasObject}
-use Rattle.families.specs.Listing.{countOf}
-use Rattle.families.specs.Questions.{asked, isIn, put, rankGiven, opening, closing, refusal}
-use Rattle.families.specs.Answers.{verdictAs}
-use Rattle.families.proofs.TableFacts.{Allowed, passes-allowed}
-use Rattle.families.proofs.Empty.{has-object}
-use Rattle.families.proofs.Asking.{passed, left-passes}
+use Rattle.families.specs.declared.table.Size.{Size}
+use Rattle.families.specs.Table.{Lent}
+use Rattle.families.specs.Families.{always, askedOfAll, allowed, objectLength, listing, countOf}
+use Rattle.families.specs.Questions.{asked, isIn, put, rankGiven, opening, closingFor, refusal}
+use Rattle.families.specs.Answers.{verdictAs, sizeAs}
+use Rattle.families.proofs.QuestionLaws.{after-pass, after-no, left-passes, right-passes, is-put, closing-passes}
+use Rattle.families.proofs.QuestionLaws as laws
+use Rattle.families.proofs.FamilyFacts.{allowed-asked}
 
 -- what the code's verdict says
 pub verdict : {v w : Verdict} {o : Option ℕ} → verdictAs v ≡ o → v ≡ w → o ≡ verdictAs w
 verdict e told = sym e ∙ ap verdictAs told
+
+pub size-told : {s w : Size} {o : Option ℕ} → sizeAs s ≡ o → s ≡ w → o ≡ sizeAs w
+size-told e told = sym e ∙ ap sizeAs told
 
 -- the answer of the code's test is no, or yes
 pub is-no : {r a : Bool} → r ≡ a → not r ≡ true → a ≡ false
@@ -28,59 +35,112 @@ is-no {r} e h = sym e ∙ not-true r h
 pub is-yes : {r a : Bool} → r ≡ a → not r ≡ false → a ≡ true
 is-yes {r} e h = sym e ∙ not-false r h
 
--- a question that isn't put to the call, and one that is
+-- questions 5 and 8 read off the first no of the two, with others put between
 
-pub not-put : (c : Call) (q : ℕ) (answer : Bool) → isIn q (asked c) ≡ false → put c q answer .yes? ≡ true
-unfolding put
-not-put c q answer e = rw e
+pub too-large : (a b : Bool) → firstNo (always 5 a ∷ always 8 b ∷ []) ≡ some 5 → a ≡ false
+unfolding firstNo orElse
+too-large false b e = refl
+too-large true false e = absurd (omega (arith, Option·some-injective 8 5 e))
+too-large true true e = absurd (Option·some-ne-none 5 (sym e))
 
-pub is-put : (c : Call) (q : ℕ) (answer : Bool) → isIn q (asked c) ≡ true → put c q answer .yes? ≡ answer
-unfolding put
-is-put c q answer e = rw e
+pub beyond : (a b : Bool) → firstNo (always 5 a ∷ always 8 b ∷ []) ≡ some 8 → (a ≡ true) × (b ≡ false)
+unfolding firstNo orElse
+beyond false b e = absurd (omega (arith, Option·some-injective 5 8 e))
+beyond true false e = (refl, refl)
+beyond true true e = absurd (Option·some-ne-none 8 (sym e))
 
--- questions 1 to 3 are put to every call
-put-to-all : (c : Call) → (isIn 1 (asked c) ≡ true) × (isIn 2 (asked c) ≡ true) × (isIn 3 (asked c) ≡ true)
-unfolding asked isIn
-put-to-all COUNT = (refl, refl, refl)
-put-to-all FIRST = (refl, refl, refl)
-put-to-all LAST = (refl, refl, refl)
-put-to-all NEXT = (refl, refl, refl)
-put-to-all PREVIOUS = (refl, refl, refl)
-put-to-all RANK = (refl, refl, refl)
-put-to-all (UNRANK r) = (refl, refl, refl)
+pub below : (a b : Bool) → firstNo (always 5 a ∷ always 8 b ∷ []) ≡ none → (a ≡ true) × (b ≡ true)
+unfolding firstNo orElse
+below false b e = absurd (Option·some-ne-none 5 e)
+below true false e = absurd (Option·some-ne-none 8 e)
+below true true e = (refl, refl)
 
-module _ (c : Call) (f : Family) (b : Lent) where
-  -- questions 1 to 4
-  pub opening-is : firstNo (opening c f b) ≡ orElse (isKind f) 1 (orElse (inTable f) 2 (orElse (listsFit f b) 3 (orElse (put c 4 (ltb 0 (countOf f b)) .yes?) 4 none)))
-  unfolding opening firstNo put
-  opening-is = rw (put-to-all c .0, put-to-all c .1, put-to-all c .2)
+pub between-pass : (p q r s : Question) → p .yes? ≡ true → s .yes? ≡ true → firstNo (p ∷ q ∷ r ∷ s ∷ []) ≡ firstNo (q ∷ r ∷ [])
+unfolding firstNo orElse
+between-pass p q r s e h = rw (e, h)
 
-  -- a family is allowed where they pass
-  pub opened : firstNo (opening c f b) ≡ none → allowed f b ≡ true
+pub between-no : (p q r s : Question) → p .yes? ≡ true → s .yes? ≡ false → firstNo (p ∷ q ∷ r ∷ s ∷ []) ≡ firstNo ((q ∷ r ∷ []) ++ (always (s .number) false ∷ []))
+unfolding firstNo orElse
+between-no p q r s e h = rw (e, h)
+
+module _ (f : Family) (b : Lent) where
+  -- a question put to all that is missed is missed by every call
+  pub refused-early : (c : Call) (size : ℕ) (holds : Bool) {q : ℕ} → firstNo (askedOfAll f b) ≡ some q → refusal c f b size holds ≡ some q
+  unfolding refusal opening
+  refused-early c size holds e =
+      after-no (opening c f b) (closingFor c (countOf f b) (objectLength f b) size holds) (after-no (askedOfAll f b) (put c 4 (ltb 0 (countOf f b)) ∷ []) e)
+
+  -- a family is allowed where the questions about it pass
+  pub opened : (c : Call) → firstNo (opening c f b) ≡ none → allowed f b ≡ true
+  unfolding opening
+  opened c e = allowed-asked f b (left-passes (askedOfAll f b) (put c 4 (ltb 0 (countOf f b)) ∷ []) e)
+
+  -- and has an object, if it is asked for one
+  pub some-object : (c : Call) → isIn 4 (asked c) ≡ true → firstNo (opening c f b) ≡ none → 0 < countOf f b
   unfolding opening put
-  opened e =
-      passes-allowed f b
-      (record {
-        kind = rw (put-to-all c .0) at (passed 1 (opening c f b) e);
-        bounded = rw (put-to-all c .1) at (passed 2 (opening c f b) e);
-        lists = rw (put-to-all c .2) at (passed 3 (opening c f b) e);
-      })
+  some-object c put4 e =
+      let fourth = laws.passed 4 (put c 4 (ltb 0 (countOf f b)) ∷ []) (right-passes (askedOfAll f b) (put c 4 (ltb 0 (countOf f b)) ∷ []) e) in
+      ltb-true 0 (countOf f b) (sym (is-put c 4 (ltb 0 (countOf f b)) put4) ∙ fourth)
 
-  -- and so where all questions do
-  pub admitted : (size : ℕ) (holds : Bool) → refusal f b c size holds ≡ none → allowed f b ≡ true
+  -- NEXT is asked of it what PREVIOUS is
+  same : opening NEXT f b ≡ opening PREVIOUS f b
+  unfolding opening put asked isIn
+  same = refl
+
+  -- all that demand 3 needs is asked
+  pub asks-enough : Asks (λ c. refusal c f b) (listing f b) (objectLength f b)
+  unfolding refusal countOf
+  asks-enough = laws.asks-enough (λ c. opening c f b) (listing f b) (objectLength f b) some-object same
+
+  pub admitted : (c : Call) (size : ℕ) (holds : Bool) → refusal c f b size holds ≡ none → allowed f b ≡ true
   unfolding refusal
-  admitted size holds e = opened (left-passes (opening c f b) (closing c f b size holds) e)
+  admitted c size holds e = opened c (left-passes (opening c f b) (closingFor c (countOf f b) (objectLength f b) size holds) e)
 
-  -- once questions 1 to 3 have passed the fourth is left
-  pub fourth : Allowed f b → firstNo (opening c f b) ≡ orElse (put c 4 (ltb 0 (countOf f b)) .yes?) 4 none
-  unfolding orElse
-  fourth a = opening-is ∙ rw (a .kind, a .bounded, a .lists)
+  -- what RANK, UNRANK and COUNT have been asked when they pass
+  pub fits-asked : (c : Call) (size : ℕ) (holds : Bool) → isIn 5 (asked c) ≡ true → refusal c f b size holds ≡ none → countOf f b < 2 ^ 64
+  unfolding refusal
+  fits-asked c size holds put5 e =
+      laws.fits-asked c (countOf f b) (objectLength f b) size holds (right-passes (opening c f b) (closingFor c (countOf f b) (objectLength f b) size holds) e) put5
 
-  -- which the code answers by the kind, n and k
-  pub fourth-put : Allowed f b → isIn 4 (asked c) ≡ true → put c 4 (ltb 0 (countOf f b)) .yes? ≡ hasObject (kindOf (f .kind)) (f .n) (f .k)
-  fourth-put a e = is-put c 4 (ltb 0 (countOf f b)) e ∙ has-object f b (passes-allowed f b a)
+  -- a call that is asked whether there is an object is asked of the family what FIRST is
+  pub opens-alike : (c : Call) → isIn 4 (asked c) ≡ true → opening c f b ≡ opening FIRST f b
+  unfolding opening put asked isIn
+  opens-alike c put4 = rw put4
 
-  -- questions 5 to 8
-  pub closing-is : (size : ℕ) (holds : Bool) → firstNo (closing c f b size holds) ≡ orElse (put c 5 (ltb (countOf f b) (2 ^ 64)) .yes?) 5 (orElse (put c 6 (eqb size (objectLength f b)) .yes?) 6 (orElse (put c 7 holds .yes?) 7 (orElse (put c 8 (ltb (rankGiven c) (countOf f b)) .yes?) 8 none)))
-  unfolding closing firstNo put
-  closing-is size holds = refl
+  pub opening-asked : (c : Call) (size : ℕ) (holds : Bool) → isIn 4 (asked c) ≡ true → refusal c f b size holds ≡ none → firstNo (opening FIRST f b) ≡ none
+  unfolding refusal
+  opening-asked c size holds put4 e =
+      sym (ap firstNo (opens-alike c put4)) ∙ left-passes (opening c f b) (closingFor c (countOf f b) (objectLength f b) size holds) e
+
+  -- which calls pass: where the questions about the family do, and those that are put of the count, the buffer, the object and the rank
+  pub passes : (c : Call) (size : ℕ) (holds : Bool) → isIn 4 (asked c) ≡ true → firstNo (opening FIRST f b) ≡ none → (isIn 5 (asked c) ≡ true → countOf f b < 2 ^ 64) → size ≡ objectLength f b
+      → (isIn 7 (asked c) ≡ true → holds ≡ true) → (isIn 8 (asked c) ≡ true → rankGiven c < countOf f b) → refusal c f b size holds ≡ none
+  unfolding refusal
+  passes c size holds put4 e fits sized object lower =
+      after-pass (opening c f b) (closingFor c (countOf f b) (objectLength f b) size holds) (ap firstNo (opens-alike c put4) ∙ e)
+      ∙ closing-passes c (countOf f b) (objectLength f b) size holds fits sized object lower
+
+  -- call by call
+
+  pub first-passes : (size : ℕ) (holds : Bool) → firstNo (opening FIRST f b) ≡ none → size ≡ objectLength f b → refusal FIRST f b size holds ≡ none
+  unfolding asked isIn
+  first-passes size holds e h = passes FIRST size holds refl e (λ w. absurd (false≢true w)) h (λ w. absurd (false≢true w)) (λ w. absurd (false≢true w))
+
+  pub last-passes : (size : ℕ) (holds : Bool) → firstNo (opening FIRST f b) ≡ none → size ≡ objectLength f b → refusal LAST f b size holds ≡ none
+  unfolding asked isIn
+  last-passes size holds e h = passes LAST size holds refl e (λ w. absurd (false≢true w)) h (λ w. absurd (false≢true w)) (λ w. absurd (false≢true w))
+
+  pub next-passes : (size : ℕ) → firstNo (opening FIRST f b) ≡ none → size ≡ objectLength f b → refusal NEXT f b size true ≡ none
+  unfolding asked isIn
+  next-passes size e h = passes NEXT size true refl e (λ w. absurd (false≢true w)) h (λ w. refl) (λ w. absurd (false≢true w))
+
+  pub previous-passes : (size : ℕ) → firstNo (opening FIRST f b) ≡ none → size ≡ objectLength f b → refusal PREVIOUS f b size true ≡ none
+  previous-passes size e h = sym (asks-enough .alike size true) ∙ next-passes size e h
+
+  pub rank-passes : (size : ℕ) → firstNo (opening FIRST f b) ≡ none → countOf f b < 2 ^ 64 → size ≡ objectLength f b → refusal RANK f b size true ≡ none
+  unfolding asked isIn
+  rank-passes size e fits h = passes RANK size true refl e (λ w. fits) h (λ w. refl) (λ w. absurd (false≢true w))
+
+  pub unrank-passes : (r size : ℕ) (holds : Bool) → firstNo (opening FIRST f b) ≡ none → countOf f b < 2 ^ 64 → size ≡ objectLength f b → r < countOf f b → refusal (UNRANK r) f b size holds ≡ none
+  unfolding asked isIn rankGiven
+  unrank-passes r size holds e fits h lt = passes (UNRANK r) size holds refl e (λ w. fits) h (λ w. absurd (false≢true w)) (λ w. lt)

@@ -2,7 +2,7 @@
 -- Assumes nothing.
 use mathlib.Core.Option.{Option, none, some}
 use Prim.Native.Nat.{ℕ}
-use Rattle.listings.specs.Calls.{COUNT, FIRST, LAST, NEXT, PREVIOUS, RANK, UNRANK, Answer, REFUSED, COUNTED, RANKED, WRITTEN, STEPPED, END}
+use Rattle.listings.specs.Calls.{COUNT, FIRST, LAST, NEXT, PREVIOUS, RANK, UNRANK, Answer, REFUSED, COUNTED, RANKED, WRITTEN, STEPPED, MEASURED, END}
 use Rattle.listings.specs.Calls.{Call as CallOf}
 use Rattle.families.specs.declared.Counted.{Counted}
 use Rattle.families.specs.declared.Ranked.{Ranked}
@@ -11,6 +11,7 @@ use Rattle.families.specs.declared.Stepped.{Stepped}
 use Rattle.families.specs.declared.Length.{Length}
 use Rattle.families.specs.declared.questions.Call.{Call}
 use Rattle.families.specs.declared.questions.Verdict.{Verdict}
+use Rattle.families.specs.declared.table.Size.{Size}
 
 -- a call of the code
 abbrev pub callAs : Call → CallOf
@@ -26,6 +27,12 @@ callAs (Call.Unrank r) = UNRANK r
 abbrev pub verdictAs : Verdict → Option ℕ
 verdictAs Verdict.Pass = none
 verdictAs (Verdict.No q) = some q
+
+-- questions 5 and 8 for a rank
+abbrev pub sizeAs : Size → Option ℕ
+sizeAs Size.Below = none
+sizeAs Size.Beyond = some 8
+sizeAs Size.TooLarge = some 5
 
 -- COUNT's answers
 abbrev pub countedAs : Counted → Answer
@@ -48,7 +55,7 @@ steppedAs Stepped.Moved = STEPPED
 steppedAs Stepped.End = END
 steppedAs (Stepped.Refused q) = REFUSED q
 
--- the length of a family's objects, said as a number
+-- how long the family's objects are
 abbrev pub lengthAs : Length → Answer
-lengthAs (Length.Bytes n) = COUNTED n
+lengthAs (Length.Bytes n) = MEASURED n
 lengthAs (Length.Refused q) = REFUSED q

@@ -6,8 +6,8 @@ use Prim.Native.Nat.{ℕ}
 use Rattle.listings.specs.Bytes.{Bytes}
 use Rattle.listings.specs.Calls.{Call, COUNT, LAST, NEXT, RANK, Said, COUNTED, RANKED, WRITTEN, STEPPED}
 use Rattle.families.specs.declared.Family.{Family}
-use Rattle.families.specs.Table.{lent}
-use Rattle.families.specs.Listing.{listing}
+use Rattle.families.specs.Table.{Lent, onlyCounts, plainFamily}
+use Rattle.families.specs.Families.{listing}
 use Rattle.families.specs.Calls.{respond}
 
 -- a call on some bytes says this; or the listing is this
@@ -18,23 +18,23 @@ pub data Fact : Type 0 where
 -- a row of the table
 pub record Case : Type 0 where
   pub family : Family
-  pub counts : List ℕ
+  pub beside : Lent
   pub facts : List Fact
 
-abbrev pub Holds : Family → List ℕ → Fact → Type 0
-Holds f cs (says c x s) = respond c f (lent cs) x ≡ s
-Holds f cs (lists l) = listing f (lent cs) ≡ l
+abbrev pub Holds : Family → Lent → Fact → Type 0
+Holds f b (says c x s) = respond c f b x ≡ s
+Holds f b (lists l) = listing f b ≡ l
 
-abbrev pub FactsHold : Family → List ℕ → List Fact → Type 0
-FactsHold f cs [] = Unit
-FactsHold f cs (fact ∷ facts) = Holds f cs fact × FactsHold f cs facts
+abbrev pub FactsHold : Family → Lent → List Fact → Type 0
+FactsHold f b [] = Unit
+FactsHold f b (fact ∷ facts) = Holds f b fact × FactsHold f b facts
 
 abbrev pub CasesHold : List Case → Type 0
 CasesHold [] = Unit
-CasesHold (c ∷ cs) = FactsHold (c .family) (c .counts) (c .facts) × CasesHold cs
+CasesHold (c ∷ cs) = FactsHold (c .family) (c .beside) (c .facts) × CasesHold cs
 
 abbrev pub case : ℕ → ℕ → ℕ → List ℕ → List Fact → Case
-case kind n k cs facts = record { family = record { kind = kind; n = n; k = k }; counts = cs; facts = facts }
+case kind n k cs facts = record { family = plainFamily kind n k; beside = onlyCounts cs; facts = facts }
 
 -- "has rank"
 abbrev pub ranked : Bytes → ℕ → Fact

@@ -1,4 +1,4 @@
--- Paper 01's table of families: kinds, bounds, lists lent beside a family, and the objects' lengths.
+-- Paper 01's table of families: what is lent beside a family, and a row for each kind, over the family and everything lent.
 -- Assumes nothing.
 use mathlib.Core.Bool.{Bool, true, false, _&&_, _||_}
 use mathlib.Core.List.{List, [], _∷_}
@@ -7,79 +7,145 @@ use lib.Dec.{leb, ltb, eqb}
 use lib.ListN.{length, getD}
 use Rattle.numbers.specs.Limits.{places, branches}
 use Rattle.numbers.specs.Sums.{total}
+use Rattle.numbers.specs.Numbers.{choose, multinomialOf, factorialOf, stirlingOf, partitionsOf, catalanOf}
+use Rattle.listings.specs.Rows.{Row}
+use Rattle.subsets.specs.Objects.{isSubset, subsetBefore}
+use Rattle.subsets.specs.Listing.{subsets}
+use Rattle.anagrams.specs.Objects.{isAnagram, anagramBefore}
+use Rattle.anagrams.specs.Listing.{anagrams}
+use Rattle.anagrams.specs.Permutations.{isPermutation, permutations}
+use Rattle.set_partitions.specs.Objects.{isSetPartition, setPartitionBefore}
+use Rattle.set_partitions.specs.Listing.{setPartitions}
+use Rattle.integer_partitions.specs.Objects.{isIntegerPartition, integerPartitionBefore}
+use Rattle.integer_partitions.specs.Listing.{integerPartitions}
+use Rattle.dyck_words.specs.Objects.{isDyckWord}
+use Rattle.dyck_words.specs.Trees.{dyckBefore}
+use Rattle.dyck_words.specs.Listing.{dyckWords}
 use Rattle.families.specs.declared.Family.{Family}
 
 -- everything lent beside a family, a field a list: "a lent list of letter counts, one byte a letter, filled only for kind 2"
 pub record Lent : Type 0 where
   pub counts : List ℕ
 
--- a later list is added here
-abbrev pub lent : List ℕ → Lent
-lent counts = record { counts = counts }
+-- the lists by their places
+abbrev pub lent : List (List ℕ) → Lent
+lent lists = record { counts = getD lists 0 [] }
 
--- the kinds, by their names in the field; a number that is no kind is unknown
-pub data Kind : Type 0 where
-  subset anagram permutation setPartition integerPartition dyckWord unknown : Kind
+-- letter counts, and no other list: a place where nothing stands is an empty list
+abbrev pub onlyCounts : List ℕ → Lent
+onlyCounts counts = lent (counts ∷ [])
 
--- the column "kind": each kind stands at its number
-unfoldable pub kindOf : ℕ → Kind
-kindOf kind = getD (unknown ∷ subset ∷ anagram ∷ permutation ∷ setPartition ∷ integerPartition ∷ dyckWord ∷ []) kind unknown
+-- a family of which no more is said than this: later fields have their defaults
+abbrev pub plainFamily : ℕ → ℕ → ℕ → Family
+plainFamily kind n k = record { kind = kind; n = n; k = k }
 
--- question 1: "Is the kind 1 to 6?"
-unfoldable pub isKind : Family → Bool
-isKind f = leb 1 (f .kind) && leb (f .kind) 6
+-- "empty for other kinds"
+unfoldable pub noCounts : Lent → Bool
+noCounts b = eqb (length (b .counts)) 0
 
--- the column "n, k"
-unfoldable pub bounds : Kind → ℕ → ℕ → Bool
-bounds subset n k = leb n places && leb k places
-bounds anagram n k = leb n places && eqb k 0
-bounds permutation n k = leb n places && eqb k 0
-bounds setPartition n k = leb n places && leb k places
-bounds integerPartition n k = leb n places && leb k places
-bounds dyckWord n k = leb n branches && eqb k 0
-bounds unknown n k = false
+-- 1 sites used: "n, k 0 to 80", "k site numbers from 1 to n, strictly ascending"; "no object when k > n"
+unfoldable pub subsetRow : Family → Lent → Row
+subsetRow f b = record {
+  inBounds = leb (f .n) places && leb (f .k) places;
+  listsFit = noCounts b;
+  objectLength = f .k;
+  isObject = isSubset (f .n) (f .k);
+  comesBefore = subsetBefore;
+  listing = subsets (f .n) (f .k);
+  number = choose (f .n) (f .k);
+  hasObject = leb (f .k) (f .n);
+}
 
--- question 2: "Are n and k within the table above?"
-unfoldable pub inTable : Family → Bool
-inTable f = bounds (kindOf (f .kind)) (f .n) (f .k)
+-- 2 hanging: "n letters, 0 to 80; k is 0", "word with letter i exactly as often as count i says"; "the count list n long .. with a sum of at most 80"
+unfoldable pub anagramRow : Family → Lent → Row
+anagramRow f b = record {
+  inBounds = leb (f .n) places && eqb (f .k) 0;
+  listsFit = eqb (length (b .counts)) (f .n) && leb (total (b .counts)) places;
+  objectLength = total (b .counts);
+  isObject = isAnagram (b .counts);
+  comesBefore = anagramBefore;
+  listing = anagrams (b .counts);
+  number = multinomialOf (b .counts);
+  hasObject = true;
+}
 
--- "the count list n long for kind 2 with a sum of at most 80, and empty for other kinds"
-unfoldable pub countsFit : Kind → ℕ → List ℕ → Bool
-countsFit anagram n cs = eqb (length cs) n && leb (total cs) places
-countsFit subset n cs = eqb (length cs) 0
-countsFit permutation n cs = eqb (length cs) 0
-countsFit setPartition n cs = eqb (length cs) 0
-countsFit integerPartition n cs = eqb (length cs) 0
-countsFit dyckWord n cs = eqb (length cs) 0
-countsFit unknown n cs = eqb (length cs) 0
+-- 3 pouring order: "n 0 to 80; k is 0", "each of 1 to n"
+unfoldable pub permutationRow : Family → Lent → Row
+permutationRow f b = record {
+  inBounds = leb (f .n) places && eqb (f .k) 0;
+  listsFit = noCounts b;
+  objectLength = f .n;
+  isObject = isPermutation (f .n);
+  comesBefore = anagramBefore;
+  listing = permutations (f .n);
+  number = factorialOf (f .n);
+  hasObject = true;
+}
 
--- question 3
-unfoldable pub listsFit : Family → Lent → Bool
-listsFit f b = countsFit (kindOf (f .kind)) (f .n) (b .counts)
+-- 4 flask sharing: "n, k 0 to 80", "byte i is the block of model i"; "no object when k > n", "none when k = 0 < n"
+unfoldable pub setPartitionRow : Family → Lent → Row
+setPartitionRow f b = record {
+  inBounds = leb (f .n) places && leb (f .k) places;
+  listsFit = noCounts b;
+  objectLength = f .n;
+  isObject = isSetPartition (f .n) (f .k);
+  comesBefore = setPartitionBefore;
+  listing = setPartitions (f .n) (f .k);
+  number = stirlingOf (f .n) (f .k);
+  hasObject = leb (f .k) (f .n) && (ltb 0 (f .k) || eqb (f .n) 0);
+}
 
--- what "the table above" allows
-unfoldable pub allowed : Family → Lent → Bool
-allowed f b = isKind f && inTable f && listsFit f b
+-- 5 batch split: "n, k 0 to 80", "k parts, each at least 1, weakly descending, sum n"; "no object when k > n", "none when k = 0 < n"
+unfoldable pub integerPartitionRow : Family → Lent → Row
+integerPartitionRow f b = record {
+  inBounds = leb (f .n) places && leb (f .k) places;
+  listsFit = noCounts b;
+  objectLength = f .k;
+  isObject = isIntegerPartition 1 (f .n) (f .k);
+  comesBefore = integerPartitionBefore;
+  listing = integerPartitions 1 (f .n) (f .k);
+  number = partitionsOf (f .n) (f .k);
+  hasObject = leb (f .k) (f .n) && (ltb 0 (f .k) || eqb (f .n) 0);
+}
 
--- the column "length"
-unfoldable pub lengthOf : Kind → ℕ → ℕ → List ℕ → ℕ
-lengthOf subset n k cs = k
-lengthOf anagram n k cs = total cs
-lengthOf permutation n k cs = n
-lengthOf setPartition n k cs = n
-lengthOf integerPartition n k cs = k
-lengthOf dyckWord n k cs = 2 * n
-lengthOf unknown n k cs = 0
+-- 6 branch plan: "n branches, 0 to 40; k is 0", "2n bytes 1 .. and 0 .., as many of each, no prefix with more 0 than 1"
+unfoldable pub dyckWordRow : Family → Lent → Row
+dyckWordRow f b = record {
+  inBounds = leb (f .n) branches && eqb (f .k) 0;
+  listsFit = noCounts b;
+  objectLength = 2 * f .n;
+  isObject = isDyckWord (f .n);
+  comesBefore = dyckBefore;
+  listing = dyckWords (f .n);
+  number = catalanOf (f .n);
+  hasObject = true;
+}
 
-unfoldable pub objectLength : Family → Lent → ℕ
-objectLength f b = lengthOf (kindOf (f .kind)) (f .n) (f .k) (b .counts)
+-- a number that is no kind
+unfoldable pub noRow : Lent → Row
+noRow b = record {
+  inBounds = false;
+  listsFit = noCounts b;
+  objectLength = 0;
+  isObject = λ x. false;
+  comesBefore = λ x y. false;
+  listing = [];
+  number = 0;
+  hasObject = false;
+}
 
--- "Kinds 1, 4 and 5 have no object when k > n; kinds 4 and 5 have none when k = 0 < n"; every other family that the table allows has one
-unfoldable pub hasObject : Kind → ℕ → ℕ → Bool
-hasObject subset n k = leb k n
-hasObject anagram n k = true
-hasObject permutation n k = true
-hasObject setPartition n k = leb k n && (ltb 0 k || eqb n 0)
-hasObject integerPartition n k = leb k n && (ltb 0 k || eqb n 0)
-hasObject dyckWord n k = true
-hasObject unknown n k = false
+-- the table: each kind's row stands at its number, from 1 on
+unfoldable pub table : Family → Lent → List Row
+table f b =
+    noRow b
+    ∷ subsetRow f b
+    ∷ anagramRow f b
+    ∷ permutationRow f b
+    ∷ setPartitionRow f b
+    ∷ integerPartitionRow f b
+    ∷ dyckWordRow f b
+    ∷ []
+
+-- the last kind of the table
+abbrev pub lastKind : ℕ
+lastKind = 6

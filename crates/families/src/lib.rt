@@ -1,27 +1,37 @@
 // The seven calls on families of objects. No function has a `requires`: any kind, n, k, any lists and buffers of any length are answered, or
 // refused by the number of the first question that they miss, and a refusal leaves every byte.
 ghost use mathlib.Core.Path.{_≡_};
-ghost use mathlib.Core.List.{[]};
-ghost use Rattle.listings.specs.Calls.{COUNT, FIRST, LAST, NEXT, PREVIOUS, RANK, UNRANK, Said};
+ghost use mathlib.Core.List.{map, []};
+ghost use Rattle.listings.specs.Calls.{COUNT, FIRST, LAST, NEXT, PREVIOUS, RANK, UNRANK, Said, firstNo};
 ghost use Rattle.listings.specs.Steps.{stepAs};
-ghost use Rattle.families.specs.Table.{lent};
+ghost use Rattle.families.specs.Table.{lent, onlyCounts, plainFamily};
+ghost use Rattle.families.specs.Families.{isObject, countOf};
+ghost use Rattle.families.specs.Questions.{rankRefusal};
+ghost use Rattle.families.specs.Questions.{opening as openingOf};
 ghost use Rattle.families.specs.Calls.{respond, measured};
-ghost use Rattle.families.specs.Answers.{countedAs, rankedAs, writtenAs, steppedAs, lengthAs};
+ghost use Rattle.families.specs.Answers.{callAs, verdictAs, sizeAs, countedAs, rankedAs, writtenAs, steppedAs, lengthAs};
 
-mod counts;
-mod objects;
+pub mod codes;
+mod kinds;
 mod questions;
+mod table;
 
+use counting::Count;
 use listings::Step;
 pub use questions::Call;
-use questions::Verdict;
+pub use questions::Verdict;
+use table::Size;
 
 // "A family is passed by value: its kind, n and k, each an unsigned 64-bit number."
+#[repr(C)]
 pub struct Family {
     pub kind: u64,
     pub n: u64,
     pub k: u64,
 }
+
+// Everything lent beside a family, by place: the letter counts of kind 2.
+pub type Lists<'a> = [&'a [u8]; 1];
 
 // What COUNT answers: the number of objects, or the number of the question missed.
 pub enum Counted {
@@ -54,95 +64,157 @@ pub enum Length {
     Refused(u8),
 }
 
-// The length that a lent object buffer must have: the table's, where questions 1 to 3 pass.
-pub fn object_length(f: Family, counts: &[u8]) -> Length
-    ensures { λ r. ⌜ lengthAs r ≡ measured f (lent (now (counts .entry))) ⌝ }
+// A family of which no more is said than this: later fields have their defaults.
+pub fn plain_family(kind: u64, n: u64, k: u64) -> Family
+    ensures { λ r. ⌜ r ≡ plainFamily kind n k ⌝ }
 {
-    let Verdict::No(q) = questions::opening(Call::Count, f, counts) else {
-        return Length::Bytes(counts::object_length(f, counts));
+    Family { kind, n, k }
+}
+
+// Letter counts, and no other list.
+pub fn only_counts<'a>(counts: &'a [u8]) -> Lists<'a>
+    ensures { λ r. ⌜ lent (map now r) ≡ onlyCounts (now (counts .entry)) ⌝ }
+{
+    [counts]
+}
+
+// No list at all. A list needs bytes to point at: none of these is lent.
+pub fn no_lists<'a>(any: &'a [u8]) -> Lists<'a>
+    ensures { λ r. ⌜ lent (map now r) ≡ onlyCounts [] ⌝ }
+{
+    only_counts(&any[..0])
+}
+
+// The length that a lent object buffer must have: the table's, where the questions pass that are put to all.
+pub fn object_length<'a>(f: Family, lists: Lists<'a>) -> Length
+    ensures { λ r. ⌜ lengthAs r ≡ measured f (lent (map now (lists .entry))) ⌝ }
+{
+    let Verdict::No(q) = questions::asked_of_all(f, lists) else {
+        return Length::Bytes(table::object_length(f, lists));
     };
     Length::Refused(q)
 }
 
-// COUNT: how many objects the family has.
-pub fn count(f: Family, counts: &[u8]) -> Counted
-    ensures { λ r. ⌜ _≡_ {A = Said} (countedAs r, []) (respond COUNT f (lent (now (counts .entry))) []) ⌝ }
+// The questions about the family alone, as they are put to a call.
+pub fn opening<'a>(c: Call, f: Family, lists: Lists<'a>) -> Verdict
+    ensures { λ r. ⌜ verdictAs r ≡ firstNo (openingOf (callAs c) f (lent (map now (lists .entry)))) ⌝ }
 {
-    let Verdict::No(q) = questions::ask(Call::Count, f, counts, b"") else {
-        return Counted::Objects(counts::answer(f, counts));
+    questions::opening(c, f, lists)
+}
+
+// Do the bytes hold an object of the family?
+pub fn is_object<'a>(f: Family, lists: Lists<'a>, object: &[u8]) -> bool
+    ensures { λ r. ⌜ r ≡ isObject f (lent (map now (lists .entry))) (now (object .entry)) ⌝ }
+{
+    let Verdict::No(_) = questions::asked_of_all(f, lists) else {
+        return kinds::is_object(f, lists, object);
+    };
+    false
+}
+
+// Questions 5 and 8 for a number, whatever the call.
+pub fn rank_below<'a>(rank: u64, f: Family, lists: Lists<'a>) -> Verdict
+    ensures { λ r. ⌜ verdictAs r ≡ rankRefusal rank (countOf f (lent (map now (lists .entry)))) ⌝ }
+{
+    let Verdict::No(_) = questions::asked_of_all(f, lists) else {
+        return size_verdict(table::rank_size(rank, f, lists));
+    };
+    Verdict::No(8)
+}
+
+// COUNT: how many objects the family has.
+pub fn count<'a>(f: Family, lists: Lists<'a>) -> Counted
+    ensures { λ r. ⌜ _≡_ {A = Said} (countedAs r, []) (respond COUNT f (lent (map now (lists .entry))) []) ⌝ }
+{
+    let Verdict::No(q) = questions::asked_of_all(f, lists) else {
+        let Count::Exactly(objects) = table::answer(f, lists) else {
+            return Counted::Refused(5);
+        };
+        return Counted::Objects(objects);
     };
     Counted::Refused(q)
 }
 
 // FIRST: writes the earliest object.
-pub fn first(f: Family, counts: &[u8], object: &mut [u8]) -> Written
-    ensures { λ r. ⌜ _≡_ {A = Said} (writtenAs r, now (object .exit)) (respond FIRST f (lent (now (counts .entry))) (now (object .entry))) ⌝ }
+pub fn first<'a>(f: Family, lists: Lists<'a>, object: &mut [u8]) -> Written
+    ensures { λ r. ⌜ _≡_ {A = Said} (writtenAs r, now (object .exit)) (respond FIRST f (lent (map now (lists .entry))) (now (object .entry))) ⌝ }
 {
-    let Verdict::No(q) = questions::ask(Call::First, f, counts, object) else {
-        objects::first(f, counts, object);
+    let Verdict::No(q) = questions::ask(Call::First, f, lists, object) else {
+        kinds::first(f, lists, object);
         return Written::Done;
     };
     Written::Refused(q)
 }
 
 // LAST: writes the latest object.
-pub fn last(f: Family, counts: &[u8], object: &mut [u8]) -> Written
-    ensures { λ r. ⌜ _≡_ {A = Said} (writtenAs r, now (object .exit)) (respond LAST f (lent (now (counts .entry))) (now (object .entry))) ⌝ }
+pub fn last<'a>(f: Family, lists: Lists<'a>, object: &mut [u8]) -> Written
+    ensures { λ r. ⌜ _≡_ {A = Said} (writtenAs r, now (object .exit)) (respond LAST f (lent (map now (lists .entry))) (now (object .entry))) ⌝ }
 {
-    let Verdict::No(q) = questions::ask(Call::Last, f, counts, object) else {
-        objects::last(f, counts, object);
+    let Verdict::No(q) = questions::ask(Call::Last, f, lists, object) else {
+        kinds::last(f, lists, object);
         return Written::Done;
     };
     Written::Refused(q)
 }
 
 // NEXT: replaces the object by the one just after it, or answers END and changes nothing.
-pub fn next(f: Family, counts: &[u8], object: &mut [u8]) -> Stepped
-    ensures { λ r. ⌜ _≡_ {A = Said} (steppedAs r, now (object .exit)) (respond NEXT f (lent (now (counts .entry))) (now (object .entry))) ⌝ }
+pub fn next<'a>(f: Family, lists: Lists<'a>, object: &mut [u8]) -> Stepped
+    ensures { λ r. ⌜ _≡_ {A = Said} (steppedAs r, now (object .exit)) (respond NEXT f (lent (map now (lists .entry))) (now (object .entry))) ⌝ }
 {
-    let Verdict::No(q) = questions::ask(Call::Next, f, counts, object) else {
-        return moved(objects::next(f, counts, object));
+    let Verdict::No(q) = questions::ask(Call::Next, f, lists, object) else {
+        return step_answer(kinds::next(f, lists, object));
     };
     Stepped::Refused(q)
 }
 
 // PREVIOUS: replaces the object by the one just before it, or answers END and changes nothing.
-pub fn previous(f: Family, counts: &[u8], object: &mut [u8]) -> Stepped
-    ensures { λ r. ⌜ _≡_ {A = Said} (steppedAs r, now (object .exit)) (respond PREVIOUS f (lent (now (counts .entry))) (now (object .entry))) ⌝ }
+pub fn previous<'a>(f: Family, lists: Lists<'a>, object: &mut [u8]) -> Stepped
+    ensures { λ r. ⌜ _≡_ {A = Said} (steppedAs r, now (object .exit)) (respond PREVIOUS f (lent (map now (lists .entry))) (now (object .entry))) ⌝ }
 {
-    let Verdict::No(q) = questions::ask(Call::Previous, f, counts, object) else {
-        return moved(objects::previous(f, counts, object));
+    let Verdict::No(q) = questions::ask(Call::Previous, f, lists, object) else {
+        return step_answer(kinds::previous(f, lists, object));
     };
     Stepped::Refused(q)
 }
 
 // RANK: how many objects come before this one.
-pub fn rank(f: Family, counts: &[u8], object: &[u8]) -> Ranked
-    ensures { λ r. ⌜ _≡_ {A = Said} (rankedAs r, now (object .entry)) (respond RANK f (lent (now (counts .entry))) (now (object .entry))) ⌝ }
+pub fn rank<'a>(f: Family, lists: Lists<'a>, object: &[u8]) -> Ranked
+    ensures { λ r. ⌜ _≡_ {A = Said} (rankedAs r, now (object .entry)) (respond RANK f (lent (map now (lists .entry))) (now (object .entry))) ⌝ }
 {
-    let Verdict::No(q) = questions::ask(Call::Rank, f, counts, object) else {
-        return Ranked::Rank(objects::rank(f, counts, object));
+    let Verdict::No(q) = questions::ask(Call::Rank, f, lists, object) else {
+        return Ranked::Rank(kinds::rank(f, lists, object));
     };
     Ranked::Refused(q)
 }
 
 // UNRANK: writes the object of a rank.
-pub fn unrank(f: Family, counts: &[u8], rank: u64, object: &mut [u8]) -> Written
-    ensures { λ r. ⌜ _≡_ {A = Said} (writtenAs r, now (object .exit)) (respond (UNRANK rank) f (lent (now (counts .entry))) (now (object .entry))) ⌝ }
+pub fn unrank<'a>(rank: u64, f: Family, lists: Lists<'a>, object: &mut [u8]) -> Written
+    ensures { λ r. ⌜ _≡_ {A = Said} (writtenAs r, now (object .exit)) (respond (UNRANK rank) f (lent (map now (lists .entry))) (now (object .entry))) ⌝ }
 {
-    let Verdict::No(q) = questions::ask(Call::Unrank(rank), f, counts, object) else {
-        objects::unrank(f, counts, rank, object);
+    let Verdict::No(q) = questions::ask(Call::Unrank(rank), f, lists, object) else {
+        kinds::unrank(rank, f, lists, object);
         return Written::Done;
     };
     Written::Refused(q)
 }
 
 // A step's answer as the call's.
-fn moved(s: Step) -> Stepped
+fn step_answer(s: Step) -> Stepped
     ensures { λ r. ⌜ steppedAs r ≡ stepAs s ⌝ }
 {
     match s {
-        Step::Stepped => Stepped::Moved,
+        Step::Moved => Stepped::Moved,
         Step::End => Stepped::End,
+    }
+}
+
+// How a rank stands to the count, as the first of questions 5 and 8 that is missed.
+fn size_verdict(s: Size) -> Verdict
+    ensures { λ r. ⌜ verdictAs r ≡ sizeAs s ⌝ }
+{
+    match s {
+        Size::Below => Verdict::Pass,
+        Size::Beyond => Verdict::No(8),
+        Size::TooLarge => Verdict::No(5),
     }
 }

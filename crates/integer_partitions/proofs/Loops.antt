@@ -26,7 +26,7 @@ pub record Ranking (F N : ℕ) (x : Bytes) (r f n k : ℕ) : Type 0 where
   pub floor : 0 < f
   pub most : n ≤ N
   pub parts : isIntegerPartition f n k (take k x) ≡ true
-  pub sum : r + countBefore integerPartitionBefore (take k x) (integerPartitions k f n) ≡ countBefore integerPartitionBefore x (integerPartitions (length x) F N)
+  pub sum : r + countBefore integerPartitionBefore (take k x) (integerPartitions f n k) ≡ countBefore integerPartitionBefore x (integerPartitions F N (length x))
 
 pub ranking : (F N : ℕ) (x : Bytes) → 0 < F → isIntegerPartition F N (length x) x ≡ true → Ranking F N x 0 F N (length x)
 ranking F N x pos o =
@@ -38,7 +38,7 @@ last-of {F} {N} {r} {f} {n} {k} {x} h pos =
     let more : suc (k - 1) ≡ k = omega arith in
     parted f n (k - 1) x (omega arith) (rw more (h .parts))
 
-pub ranking-on : {F N r f n k : ℕ} {x : Bytes} (p s : ℕ) → Ranking F N x r f n k → 0 < k → p ≡ getD x (k - 1) 0 → s ≡ partsFrom k f n - partsFrom k p n
+pub ranking-on : {F N r f n k : ℕ} {x : Bytes} (p s : ℕ) → Ranking F N x r f n k → 0 < k → p ≡ getD x (k - 1) 0 → s ≡ partsFrom f n k - partsFrom p n k
     → Ranking F N x (r + s) p (n - p) (k - 1)
 ranking-on {F} {N} {r} {f} {n} {k} {x} p s h pos e g =
     let more : suc (k - 1) ≡ k = omega arith in
@@ -52,7 +52,7 @@ ranking-on {F} {N} {r} {f} {n} {k} {x} p s h pos e g =
       sum = omega (arith, rw e at g, rw more at (rank-parted f n (k - 1) x (omega arith) (rw more (h .parts))));
     })
 
-pub ranked : {F N r f n k : ℕ} {x : Bytes} → Ranking F N x r f n k → k ≡ 0 → r ≡ countBefore integerPartitionBefore x (integerPartitions (length x) F N)
+pub ranked : {F N r f n k : ℕ} {x : Bytes} → Ranking F N x r f n k → k ≡ 0 → r ≡ countBefore integerPartitionBefore x (integerPartitions F N (length x))
 ranked {F} {N} {r} {f} {n} {k} {x} h e = omega (arith, rw e at (h .sum), rank-none f n [] (rw e at (h .parts)) refl)
 
 -- the object of a rank R, written from the last part on: whatever has the rank r among those that can stand in front of what is written makes it
@@ -62,15 +62,15 @@ pub record Unranking (K F N R : ℕ) (r f n k : ℕ) (x : Bytes) : Type 0 where
   pub within : k ≤ K
   pub floor : 0 < f
   pub most : n ≤ N
-  pub below : r < partsFrom k f n
-  pub makes : (y : Bytes) → At (integerPartitions k f n) y r → At (integerPartitions K F N) (y ++ drop k x) R
+  pub below : r < partsFrom f n k
+  pub makes : (y : Bytes) → At (integerPartitions f n k) y r → At (integerPartitions F N K) (y ++ drop k x) R
 
-pub unranking : (F N R : ℕ) (x : Bytes) → 0 < F → R < partsFrom (length x) F N → Unranking (length x) F N R R F N (length x) x
+pub unranking : (F N R : ℕ) (x : Bytes) → 0 < F → R < partsFrom F N (length x) → Unranking (length x) F N R R F N (length x) x
 unranking F N R x pos below =
     let none : drop (length x) x ≡ [] = drop-of-length-le x {i = length x} (omega arith) in
     record { size = refl; within = omega arith; floor = pos; most = omega arith; below = below; makes = λ y at. rw (none, append-nil y) at }
 
-no-parts : (f n : ℕ) → partsFrom 0 f n ≤ 1
+no-parts : (f n : ℕ) → partsFrom f n 0 ≤ 1
 unfolding partsFrom
 no-parts f zero = omega arith
 no-parts f (suc n) = omega arith
@@ -80,14 +80,14 @@ pub record More (f n k : ℕ) : Type 0 where
   pub within : f ≤ n
 
 -- behind the first there are parts left, and the floor is at most the sum
-pub more : (k f n r : ℕ) → 0 < r → r < partsFrom k f n → More f n k
+pub more : (k f n r : ℕ) → 0 < r → r < partsFrom f n k → More f n k
 more zero f n r pos low = absurd (omega (arith, no-parts f n))
-more (suc k) f n r pos low = record { some = omega arith; within = floor-within (suc k) f n (omega arith) (omega arith) }
+more (suc k) f n r pos low = record { some = omega arith; within = floor-within f n (suc k) (omega arith) (omega arith) }
 
 drop-set : (x : Bytes) (i v : ℕ) → i < length x → drop i (set x i v) ≡ v ∷ drop (suc i) x
 drop-set x i v h = rw (set-split x i v h) (drop-at (take i x) (v ∷ drop (suc i) x) i (length-take-le i x (omega arith)))
 
-module _ {K F N R r f n k : ℕ} {x : Bytes} (u : Unranking K F N R r f n k x) (i here : ℕ) (e : suc i ≡ k) (h : f ≤ n) (c : here ≡ partsFrom i f (n - f)) where
+module _ {K F N R r f n k : ℕ} {x : Bytes} (u : Unranking K F N R r f n k x) (i here : ℕ) (e : suc i ≡ k) (h : f ≤ n) (c : here ≡ partsFrom f (n - f) i) where
   -- the rank is among those that end with the floor
   pub ends-here : r < here → Unranking K F N R r f (n - f) i (set x i f)
   ends-here low =
@@ -103,14 +103,14 @@ module _ {K F N R r f n k : ℕ} {x : Bytes} (u : Unranking K F N R r f n k x) (
   -- it is behind them
   pub ends-higher : here ≤ r → Unranking K F N R (r - here) (f + 1) n k x
   ends-higher high =
-      let back : partsFrom i f (n - f) + (r - here) ≡ r = omega arith in
+      let back : partsFrom f (n - f) i + (r - here) ≡ r = omega arith in
       rw (add-one f)
       (record {
         size = u .size;
         within = u .within;
         floor = omega arith;
         most = u .most;
-        below = omega (arith, rw e at (next-floor i f n h));
+        below = omega (arith, rw e at (next-floor f n i h));
         makes = λ y at. u .makes y (rw (back, e) at (above-floor i f n (r - here) h (rw (← e) at at)));
       })
 
@@ -120,21 +120,21 @@ pub record Fits (f n k : ℕ) : Type 0 where
   pub room : k * f ≤ n
   pub none : k ≡ 0 → n ≡ 0
 
-empty-sum : (f n : ℕ) → 0 < partsFrom 0 f n → n ≡ 0
+empty-sum : (f n : ℕ) → 0 < partsFrom f n 0 → n ≡ 0
 unfolding partsFrom
 empty-sum f zero some = refl
 empty-sum f (suc n) some = absurd (omega arith)
 
-pub fits-first : (k f n : ℕ) → 0 < partsFrom k f n → Fits f n k
-fits-first k f n some =
+pub fits-first : (f n k : ℕ) → 0 < partsFrom f n k → Fits f n k
+fits-first f n k some =
     record {
       room = elim (decLe (k * f) n) [
         | yes h ↦ h
-        | no h ↦ absurd (omega (arith, too-few k f n (omega arith)))
+        | no h ↦ absurd (omega (arith, too-few f n k (omega arith)))
       ];
       none = λ e. empty-sum f n (rw e at some);
     }
 
-pub unranked : {K F N R r f n k : ℕ} {x y : Bytes} → Unranking K F N R r f n k x → r ≡ 0 → First (integerPartitions (length (take k x)) f n) y
-    → At (integerPartitions K F N) (y ++ drop k x) R
+pub unranked : {K F N R r f n k : ℕ} {x y : Bytes} → Unranking K F N R r f n k x → r ≡ 0 → First (integerPartitions f n (length (take k x))) y
+    → At (integerPartitions F N K) (y ++ drop k x) R
 unranked {K} {F} {N} {R} {r} {f} {n} {k} {x} {y} u e start = u .makes y (rw (e, ← length-take-le k x (omega arith)) start)

@@ -32,33 +32,33 @@ follows-range a m p low high =
     rw (size, range-add a (p - a) (suc (suc rest)), back) (follows-right (range a (p - a)) (record { place = 0; here = refl; there = refl }))
 
 -- one more part behind both
-behind-one : (f k n p : ℕ) {x y : Bytes} → f ≤ p → Follows (integerPartitions k p n) x y → Follows (integerPartitions (suc k) f (n + p)) (x ++ (p ∷ [])) (y ++ (p ∷ []))
+behind-one : (f n k p : ℕ) {x y : Bytes} → f ≤ p → Follows (integerPartitions p n k) x y → Follows (integerPartitions f (n + p) (suc k)) (x ++ (p ∷ [])) (y ++ (p ∷ []))
 unfolding integerPartitions
-behind-one f k n p low s =
+behind-one f n k p low s =
     let off : n + p - p ≡ n = omega arith in
-    follows-flatMap-inside (ending k (n + p)) (in-range f (suc (n + p) - f) low (omega arith)) (rw off (follows-map (λ z. z ++ (p ∷ [])) s))
+    follows-flatMap-inside (ending (n + p) k) (in-range f (suc (n + p) - f) low (omega arith)) (rw off (follows-map (λ z. z ++ (p ∷ [])) s))
 
 -- all the parts behind
-behind : (f k n : ℕ) (z : Bytes) {x y : Bytes} → descends f z ≡ true → Follows (integerPartitions k (getD z 0 f) n) x y → Follows (integerPartitions (k + length z) f (n + total z)) (x ++ z) (y ++ z)
+behind : (f n k : ℕ) (z : Bytes) {x y : Bytes} → descends f z ≡ true → Follows (integerPartitions (getD z 0 f) n k) x y → Follows (integerPartitions f (n + total z) (k + length z)) (x ++ z) (y ++ z)
 unfolding total
-behind f k n [] {x} {y} down s = rw (append-nil x, append-nil y, add-zero k, add-zero n) s
-behind f k n (q ∷ z) {x} {y} down s =
+behind f n k [] {x} {y} down s = rw (append-nil x, append-nil y, add-zero k, add-zero n) s
+behind f n k (q ∷ z) {x} {y} down s =
     let (low, rest) = descends-cons f q z down in
-    rw (← append-assoc x (q ∷ []) z, ← append-assoc y (q ∷ []) z, add-suc, ← suc-add, ← add-assoc) (behind f (suc k) (n + q) z rest (behind-one (getD z 0 f) k n q low s))
+    rw (← append-assoc x (q ∷ []) z, ← append-assoc y (q ∷ []) z, add-suc, ← suc-add, ← add-assoc) (behind f (n + q) (suc k) z rest (behind-one (getD z 0 f) n k q low s))
 
 moves : (f n k i p s : ℕ) (z : Bytes) {x y : Bytes} → suc i + length z ≡ k → suc s + p + total z ≡ n → descends f z ≡ true → getD z 0 f ≤ p
-    → Last (integerPartitions i p (suc s)) x → First (integerPartitions i (suc p) s) y → Follows (integerPartitions k f n) (x ++ (p ∷ z)) (y ++ (suc p ∷ z))
+    → Last (integerPartitions p (suc s) i) x → First (integerPartitions (suc p) s i) y → Follows (integerPartitions f n k) (x ++ (p ∷ z)) (y ++ (suc p ∷ z))
 unfolding integerPartitions
 moves f n k i p s z {x} {y} size sum down low end start =
     let off : suc s + p - p ≡ suc s = omega arith in
     let less : suc s + p - suc p ≡ s = omega arith in
-    let seam : Follows (integerPartitions (suc i) (getD z 0 f) (suc s + p)) (x ++ (p ∷ [])) (y ++ (suc p ∷ [])) =
-    follows-flatMap-seam (ending i (suc s + p)) (follows-range (getD z 0 f) (suc (suc s + p) - getD z 0 f) p low (omega arith))
+    let seam : Follows (integerPartitions (getD z 0 f) (suc s + p) (suc i)) (x ++ (p ∷ [])) (y ++ (suc p ∷ [])) =
+    follows-flatMap-seam (ending (suc s + p) i) (follows-range (getD z 0 f) (suc (suc s + p) - getD z 0 f) p low (omega arith))
     (rw off (last-map (λ w. w ++ (p ∷ [])) end))
-    (rw less (first-map (λ w. w ++ (suc p ∷ [])) (integerPartitions i (suc p) s) start)) in
-    rw (← append-assoc x (p ∷ []) z, ← append-assoc y (suc p ∷ []) z, ← size, ← sum) (behind f (suc i) (suc s + p) z down seam)
+    (rw less (first-map (λ w. w ++ (suc p ∷ [])) (integerPartitions (suc p) s i) start)) in
+    rw (← append-assoc x (p ∷ []) z, ← append-assoc y (suc p ∷ []) z, ← size, ← sum) (behind f (suc s + p) (suc i) z down seam)
 
--- a partition cut at a part: the parts in front are at least that part, which is at least the part behind or the floor
+-- a partition cut at a part: the parts in front are at least that part, which is at least the part behind or floor the
 pub record Cut (f n i : ℕ) (x : Bytes) : Type 0 where
   pub front : isIntegerPartition (getD x i 0) (total (take i x)) i (take i x) ≡ true
   pub low : getD (drop (suc i) x) 0 f ≤ getD x i 0
@@ -87,34 +87,34 @@ put x y i v e h = ap (λ (z : Bytes). set (y ++ z) i v) (drop-cons x i 0 h) ∙ 
 -- the first part that can go up does
 pub raises : (f n i p s : ℕ) (x y : Bytes) → isIntegerPartition f n (length x) x ≡ true → i < length x
     → ((j : ℕ) → j < i → total (take j x) ≤ j * suc (getD x j 0)) → i * suc (getD x i 0) < total (take i x)
-    → p ≡ getD x i 0 + 1 → s ≡ total (take i x) → length y ≡ length (take i x) → First (integerPartitions (length (take i x)) p (s - 1)) y
-    → Follows (integerPartitions (length x) f n) x (set (y ++ drop i x) i (getD x i 0 + 1))
+    → p ≡ getD x i 0 + 1 → s ≡ total (take i x) → length y ≡ length (take i x) → First (integerPartitions p (s - 1) (length (take i x))) y
+    → Follows (integerPartitions f n (length x)) x (set (y ++ drop i x) i (getD x i 0 + 1))
 raises f n i p s x y o h passed found e e′ long start =
     let c = cut f n i x o h in
     let size : length (take i x) ≡ i = length-take-le i x (le-of-lt h) in
     let up : p ≡ suc (getD x i 0) = omega arith in
     let less : suc (s - 1) ≡ total (take i x) = omega arith in
-    let end : Last (integerPartitions i (getD x i 0) (suc (s - 1))) (take i x) =
+    let end : Last (integerPartitions (getD x i 0) (suc (s - 1)) i) (take i x) =
     rw less
     (full-last (getD x i 0) (total (take i x)) i (take i x) (c .front)
     (λ j l. let l′ : j < i = omega arith in rw (take-take j i x (le-of-lt l′), getD-take i x j 0 l′) (passed j l′))) in
     rw (put x y i (getD x i 0 + 1) (long ∙ size) h, add-one)
-    (subst (λ w. Follows (integerPartitions (length x) f n) w (y ++ (suc (getD x i 0) ∷ drop (suc i) x))) (sym (split-at x i 0 h))
+    (subst (λ w. Follows (integerPartitions f n (length x)) w (y ++ (suc (getD x i 0) ∷ drop (suc i) x))) (sym (split-at x i 0 h))
     (moves f n (length x) i (getD x i 0) (s - 1) (drop (suc i) x) (omega (arith, length-drop (suc i) x)) (omega (arith, c .sum)) (c .down) (c .low) end (rw (size, up) at start)))
 
--- the first part behind the first that can go down does
+-- the first part behind the that first can go down does
 pub lowers : (f n i p s : ℕ) (x y : Bytes) → isIntegerPartition f n (length y) y ≡ true → i < length y → ((j : ℕ) → 0 < j → j < i → getD y j 0 ≤ getD y (suc j) f)
-    → getD y (suc i) f < getD y i 0 → p ≡ getD y i 0 - 1 → s ≡ total (take i y) → length x ≡ length (take i y) → Last (integerPartitions (length (take i y)) p (s + 1)) x
-    → Follows (integerPartitions (length y) f n) (set (x ++ drop i y) i (getD y i 0 - 1)) y
+    → getD y (suc i) f < getD y i 0 → p ≡ getD y i 0 - 1 → s ≡ total (take i y) → length x ≡ length (take i y) → Last (integerPartitions p (s + 1) (length (take i y))) x
+    → Follows (integerPartitions f n (length y)) (set (x ++ drop i y) i (getD y i 0 - 1)) y
 lowers f n i p s x y o h passed found e e′ long end =
     let c = cut f n i y o h in
     let size : length (take i y) ≡ i = length-take-le i y (le-of-lt h) in
     let more : suc p ≡ getD y i 0 = omega arith in
-    let start : First (integerPartitions i (suc p) s) (take i y) =
+    let start : First (integerPartitions (suc p) s i) (take i y) =
     rw (more, e′)
     (level-first (getD y i 0) (total (take i y)) i (take i y) (c .front)
     (λ j pos l. let l′ : j < i = omega arith in
     rw (getD-take i y j 0 l′, getD-front y i (suc j) 0 l′, getD-default y (suc j) 0 f (omega arith)) (passed j pos l′))) in
     rw (put y x i (getD y i 0 - 1) (long ∙ size) h, ← e)
-    (subst (Follows (integerPartitions (length y) f n) (x ++ (p ∷ drop (suc i) y))) (sym (split-at y i 0 h))
+    (subst (Follows (integerPartitions f n (length y)) (x ++ (p ∷ drop (suc i) y))) (sym (split-at y i 0 h))
     (rw more at (moves f n (length y) i p s (drop (suc i) y) (omega (arith, length-drop (suc i) y)) (omega (arith, c .sum)) (c .down) (omega (arith, head-drop y (suc i) f)) (rw (size, add-one) at end) start)))

@@ -61,6 +61,6 @@ small : (n k : ℕ) → n ≤ places → partitionsOf n k < 2 ^ 64
 unfolding fibonacci
 small n k h = omega (arith, bounded places n h k)
 
-pub small-over : (k f n : ℕ) → 0 < f → n ≤ places → partsFrom k f n < 2 ^ 64
+pub small-over : (f n k : ℕ) → 0 < f → n ≤ places → partsFrom f n k < 2 ^ 64
 unfolding partitionsOf
-small-over k f n pos h = omega (arith, small n k h, floor-mono k n {f = 1} {g = f} (omega arith))
+small-over f n k pos h = omega (arith, small n k h, floor-mono n k {f = 1} {g = f} (omega arith))

@@ -5,8 +5,8 @@ use Prim.Native.Nat.{ℕ, zero, suc, _-_}
 use Rattle.numbers.specs.Sums.{range}
 use Rattle.listings.specs.Bytes.{Bytes}
 
--- k parts, each at least f, with the sum n
+-- parts that are at least f, with the sum n, k of them
 unfoldable pub integerPartitions : ℕ → ℕ → ℕ → List Bytes
-integerPartitions zero f zero = [] ∷ []
-integerPartitions zero f (suc n) = []
-integerPartitions (suc k) f n = flatMap (λ p. map (λ x. x ++ (p ∷ [])) (integerPartitions k p (n - p))) (range f (suc n - f))
+integerPartitions f zero zero = [] ∷ []
+integerPartitions f (suc n) zero = []
+integerPartitions f n (suc k) = flatMap (λ p. map (λ x. x ++ (p ∷ [])) (integerPartitions p (n - p) k)) (range f (suc n - f))

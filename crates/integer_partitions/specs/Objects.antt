@@ -7,7 +7,7 @@ use lib.Dec.{leb, eqb}
 use lib.ListN.{length, getD}
 use Rattle.numbers.specs.Sums.{total}
 use Rattle.listings.specs.Bytes.{Bytes}
-use Rattle.listings.specs.Orders.{lastDiffers}
+use Rattle.listings.specs.Orders.{colexBefore}
 
 -- each part is at least the one behind it, and the last at least f
 unfoldable pub descends : ℕ → Bytes → Bool
@@ -20,4 +20,4 @@ isIntegerPartition f n k x = eqb (length x) k && eqb (total x) n && descends f x
 
 -- "at the last place where they differ, the smaller part"
 abbrev pub integerPartitionBefore : Bytes → Bytes → Bool
-integerPartitionBefore = lastDiffers
+integerPartitionBefore = colexBefore

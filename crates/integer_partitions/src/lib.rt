@@ -53,7 +53,7 @@ pub fn first(floor: u64, n: u64, object: &mut [u8])
     requires { ⌜ (n ≤ places) × (length (now object) * floor ≤ n) ⌝ }
     requires { ⌜ (length (now object) ≡ 0 → n ≡ 0) ⌝ }
     requires { ⌜ 0 < floor ⌝ }
-    ensures { λ _. ⌜ First (integerPartitions (length (now (object .entry))) floor n) (now (object .exit)) ⌝ }
+    ensures { λ _. ⌜ First (integerPartitions floor n (length (now (object .entry)))) (now (object .exit)) ⌝ }
 {
     let k = object.len();
     if k == 0 {
@@ -68,7 +68,7 @@ pub fn last(floor: u64, n: u64, object: &mut [u8])
     requires { ⌜ (n ≤ places) × (length (now object) * floor ≤ n) ⌝ }
     requires { ⌜ (length (now object) ≡ 0 → n ≡ 0) ⌝ }
     requires { ⌜ 0 < floor ⌝ }
-    ensures { λ _. ⌜ Last (integerPartitions (length (now (object .entry))) floor n) (now (object .exit)) ⌝ }
+    ensures { λ _. ⌜ Last (integerPartitions floor n (length (now (object .entry)))) (now (object .exit)) ⌝ }
 {
     let k = object.len() as u64;
     if k == 0 {
@@ -84,7 +84,7 @@ pub fn last(floor: u64, n: u64, object: &mut [u8])
 pub fn next(floor: u64, n: u64, object: &mut [u8]) -> Step
     requires { ⌜ (n ≤ places) × (0 < floor) ⌝ }
     requires { ⌜ isIntegerPartition floor n (length (now object)) (now object) ≡ true ⌝ }
-    ensures { λ r. ⌜ _≡_ {A = Said} (stepAs r, now (object .exit)) (act NEXT integerPartitionBefore (integerPartitions (length (now (object .entry))) floor n) (now (object .entry))) ⌝ }
+    ensures { λ r. ⌜ _≡_ {A = Said} (stepAs r, now (object .exit)) (act NEXT integerPartitionBefore (integerPartitions floor n (length (now (object .entry)))) (now (object .entry))) ⌝ }
 {
     let i = part_to_raise(object);
     if i == object.len() {
@@ -94,14 +94,14 @@ pub fn next(floor: u64, n: u64, object: &mut [u8]) -> Step
     let others = sum(&object[..i]) - 1;
     first(wide(p), others, &mut object[..i]);
     object[i] = p;
-    Step::Stepped
+    Step::Moved
 }
 
 // The first part behind the first that can go down by one does, and the parts in front of it become as equal as can be.
 pub fn previous(floor: u64, n: u64, object: &mut [u8]) -> Step
     requires { ⌜ (n ≤ places) × (0 < floor) ⌝ }
     requires { ⌜ isIntegerPartition floor n (length (now object)) (now object) ≡ true ⌝ }
-    ensures { λ r. ⌜ _≡_ {A = Said} (stepAs r, now (object .exit)) (act PREVIOUS integerPartitionBefore (integerPartitions (length (now (object .entry))) floor n) (now (object .entry))) ⌝ }
+    ensures { λ r. ⌜ _≡_ {A = Said} (stepAs r, now (object .exit)) (act PREVIOUS integerPartitionBefore (integerPartitions floor n (length (now (object .entry)))) (now (object .entry))) ⌝ }
 {
     let i = part_to_lower(floor, object);
     if i == object.len() {
@@ -111,14 +111,14 @@ pub fn previous(floor: u64, n: u64, object: &mut [u8]) -> Step
     let others = sum(&object[..i]) + 1;
     last(wide(p), others, &mut object[..i]);
     object[i] = p;
-    Step::Stepped
+    Step::Moved
 }
 
 // How many come before it: at each part those with a smaller one there and the same behind it.
 pub fn rank(floor: u64, n: u64, object: &[u8]) -> u64
     requires { ⌜ (n ≤ places) × (0 < floor) ⌝ }
     requires { ⌜ isIntegerPartition floor n (length (now object)) (now object) ≡ true ⌝ }
-    ensures { λ r. ⌜ r ≡ countBefore integerPartitionBefore (now (object .entry)) (integerPartitions (length (now (object .entry))) floor n) ⌝ }
+    ensures { λ r. ⌜ r ≡ countBefore integerPartitionBefore (now (object .entry)) (integerPartitions floor n (length (now (object .entry)))) ⌝ }
 {
     let mut earlier: u64 = 0;
     let mut least = floor;
@@ -135,10 +135,10 @@ pub fn rank(floor: u64, n: u64, object: &[u8]) -> u64
 }
 
 // The object of a rank, from its last part on. Those that have the least part there come first: the rank is among them, or the part is larger.
-pub fn unrank(floor: u64, n: u64, rank: u64, object: &mut [u8])
+pub fn unrank(rank: u64, floor: u64, n: u64, object: &mut [u8])
     requires { ⌜ (n ≤ places) × ((0 < floor) × (length (now object) ≤ places)) ⌝ }
-    requires { ⌜ rank < partsFrom (length (now object)) floor n ⌝ }
-    ensures { λ _. ⌜ At (integerPartitions (length (now (object .entry))) floor n) (now (object .exit)) rank ⌝ }
+    requires { ⌜ rank < partsFrom floor n (length (now object)) ⌝ }
+    ensures { λ _. ⌜ At (integerPartitions floor n (length (now (object .entry)))) (now (object .exit)) rank ⌝ }
 {
     let mut r = rank;
     let mut least = floor;

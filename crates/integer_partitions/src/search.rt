@@ -73,7 +73,7 @@ pub fn part_to_lower(floor: u64, object: &[u8]) -> usize
 pub fn at_least(p: u64, n: u64, k: u64) -> u64
     requires { ⌜ (0 < p) × ((n ≤ places) × (k ≤ places)) ⌝ }
     requires { ⌜ p ≤ 256 ⌝ }
-    ensures { λ r. ⌜ r ≡ partsFrom k p n ⌝ }
+    ensures { λ r. ⌜ r ≡ partsFrom p n k ⌝ }
 {
     let off = k * (p - 1);
     if n < off {
@@ -86,7 +86,7 @@ pub fn at_least(p: u64, n: u64, k: u64) -> u64
 pub fn with_smaller(floor: u64, p: u64, n: u64, k: u64) -> u64
     requires { ⌜ (0 < floor) × ((n ≤ places) × (k ≤ places)) ⌝ }
     requires { ⌜ (floor ≤ p) × (p ≤ 256) ⌝ }
-    ensures { λ r. ⌜ r ≡ partsFrom k floor n - partsFrom k p n ⌝ }
+    ensures { λ r. ⌜ r ≡ partsFrom floor n k - partsFrom p n k ⌝ }
 {
     if p == floor {
         return 0;

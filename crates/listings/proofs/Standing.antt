@@ -2,8 +2,8 @@
 -- Assumes nothing.
 use mathlib.Core.Path.{_≡_, refl, sym, ap, _∙_}
 use mathlib.Core.Logic.{⊎-elim}
-use mathlib.Core.Bool.{Bool, true, false}
-use mathlib.Core.Option.{Option, none, some}
+use mathlib.Core.Bool.{Bool, true, false, cond}
+use mathlib.Core.Option.{Option, none, some, Option·map}
 use mathlib.Core.List.{List, [], _∷_, List·Memᴰ, List·Memᴰ·cases-cons, List·Memᴰ·not-nil}
 use Prim.Native.Nat.{ℕ, zero, suc, _≤_, _<_}
 use native.Mathlib.Omega.{arith}
@@ -11,7 +11,7 @@ use lib.ListN.{length, getD, getElem?}
 use Rattle.listings.specs.Bytes.{Bytes, same}
 use Rattle.listings.specs.Listings.{Listing}
 use Rattle.listings.specs.Places.{countBefore}
-use Rattle.listings.specs.Calls.{found, placeOf}
+use Rattle.listings.specs.Calls.{placeOf}
 use Rattle.listings.proofs.SameBytes.{same-eq, same-ne}
 use Rattle.listings.proofs.Bools.{fails}
 use Rattle.listings.proofs.PlaceRules.{at-member}
@@ -46,11 +46,11 @@ Tells l x none = List·Memᴰ x l → ⊥
 Tells l x (some p) = Found l x p
 
 pub place-tells : (l : List Bytes) (x : Bytes) → Tells l x (placeOf l x)
-unfolding placeOf found
+unfolding placeOf
 place-tells [] x = List·Memᴰ·not-nil
 place-tells (y ∷ l) x = step (same y x) refl (placeOf l x) (place-tells l x)
   where
-    step : (b : Bool) → same y x ≡ b → (o : Option ℕ) → Tells l x o → Tells (y ∷ l) x (found b o)
+    step : (b : Bool) → same y x ≡ b → (o : Option ℕ) → Tells l x o → Tells (y ∷ l) x (cond b (some 0) (Option·map suc o))
     step true e o later = record { inside = omega arith; there = λ d. same-eq y x e }
     step false e none later = λ m. ⊎-elim (λ (q : x ≡ y). same-ne y x e (sym q)) later (List·Memᴰ·cases-cons m)
     step false e (some p) later = record { inside = omega arith; there = later .there }

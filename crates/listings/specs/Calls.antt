@@ -1,6 +1,6 @@
 -- The calls, what they answer, and what each does to an object of a listing once its questions have passed.
 -- Assumes nothing.
-use mathlib.Core.Bool.{Bool, true, false, _&&_}
+use mathlib.Core.Bool.{Bool, true, false, _&&_, cond}
 use mathlib.Core.Option.{Option, none, some, Option·map}
 use mathlib.Core.List.{List, [], _∷_}
 use Prim.Native.Nat.{ℕ, zero, suc, _-_}
@@ -13,9 +13,9 @@ pub data Call : Type 0 where
   COUNT FIRST LAST NEXT PREVIOUS RANK : Call
   UNRANK : ℕ → Call
 
--- what a call says: a refusal "hands back its number only"; FIRST, LAST and UNRANK say "that it is written"
+-- what a call says: a refusal "hands back its number only"; FIRST, LAST and UNRANK say "that it is written"; MEASURED is how long the objects are
 pub data Answer : Type 0 where
-  REFUSED COUNTED RANKED : ℕ → Answer
+  REFUSED COUNTED RANKED MEASURED : ℕ → Answer
   WRITTEN STEPPED END : Answer
 
 -- the answer, and the lent bytes after the call
@@ -42,15 +42,10 @@ unfoldable pub judged : Option ℕ → Bytes → Said → Said
 judged none x s = s
 judged (some q) x s = (REFUSED q, x)
 
--- here, or one place behind where the rest of the list has it
-unfoldable pub found : Bool → Option ℕ → Option ℕ
-found true m = some 0
-found false m = Option·map suc m
-
--- the place of the first entry that equals x
+-- the place of the first entry that equals x: here, or one place behind where the rest of the list has it
 unfoldable pub placeOf : List Bytes → Bytes → Option ℕ
 placeOf [] x = none
-placeOf (y ∷ l) x = found (same y x) (placeOf l x)
+placeOf (y ∷ l) x = cond (same y x) (some 0) (Option·map suc (placeOf l x))
 
 -- the object "just after" a place, if there is one
 unfoldable pub onward : List Bytes → Option ℕ → Option Bytes

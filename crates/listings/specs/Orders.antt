@@ -6,14 +6,14 @@ use Prim.Native.Nat.{ℕ}
 use lib.Dec.{ltb, eqb}
 use Rattle.listings.specs.Bytes.{Bytes, same}
 
--- kinds 2 and 3: "at the first place where they differ, the smaller letter"
-unfoldable pub firstDiffers : Bytes → Bytes → Bool
-firstDiffers [] y = false
-firstDiffers (a ∷ x) [] = false
-firstDiffers (a ∷ x) (b ∷ y) = ltb a b || (eqb a b && firstDiffers x y)
+-- lexicographic order, of kinds 2 and 3: "at the first place where they differ, the smaller letter"
+unfoldable pub lexBefore : Bytes → Bytes → Bool
+lexBefore [] y = false
+lexBefore (a ∷ x) [] = false
+lexBefore (a ∷ x) (b ∷ y) = ltb a b || (eqb a b && lexBefore x y)
 
--- kinds 1 and 5: "at the last place where they differ, the smaller site number", "the smaller part"
-unfoldable pub lastDiffers : Bytes → Bytes → Bool
-lastDiffers [] y = false
-lastDiffers (a ∷ x) [] = false
-lastDiffers (a ∷ x) (b ∷ y) = lastDiffers x y || (same x y && ltb a b)
+-- colexicographic order, of kinds 1 and 5: "at the last place where they differ, the smaller site number", "the smaller part"
+unfoldable pub colexBefore : Bytes → Bytes → Bool
+colexBefore [] y = false
+colexBefore (a ∷ x) [] = false
+colexBefore (a ∷ x) (b ∷ y) = colexBefore x y || (same x y && ltb a b)

@@ -5,7 +5,7 @@ use mathlib.Core.List.{List, [], _∷_, map}
 use Prim.Native.Nat.{ℕ}
 use Rattle.numbers.specs.Sums.{range}
 use Rattle.listings.specs.Bytes.{Bytes}
-use Rattle.listings.specs.Calls.{Call, UNRANK, Answer, REFUSED, COUNTED, RANKED, WRITTEN, STEPPED, END, Said}
+use Rattle.listings.specs.Calls.{Call, UNRANK, Answer, REFUSED, COUNTED, RANKED, MEASURED, WRITTEN, STEPPED, END, Said}
 
 -- END ends a walk; every other answer is followed by its bytes
 unfoldable pub heard : Answer → Bytes → Option (List Bytes) → Option (List Bytes)
@@ -13,6 +13,7 @@ heard END x later = some []
 heard (REFUSED q) x later = Option·map (λ l. x ∷ l) later
 heard (COUNTED n) x later = Option·map (λ l. x ∷ l) later
 heard (RANKED n) x later = Option·map (λ l. x ∷ l) later
+heard (MEASURED n) x later = Option·map (λ l. x ∷ l) later
 heard WRITTEN x later = Option·map (λ l. x ∷ l) later
 heard STEPPED x later = Option·map (λ l. x ∷ l) later
 

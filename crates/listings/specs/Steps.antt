@@ -1,10 +1,10 @@
 -- The answer of a step in code, as paper 01 says it.
 -- Assumes nothing.
 use Rattle.listings.specs.declared.Step.{Step}
-use Rattle.listings.specs.declared.Step.the-variants.{Stepped, End}
+use Rattle.listings.specs.declared.Step.the-variants.{Moved, End}
 use Rattle.listings.specs.Calls.{Answer, STEPPED, END}
 
 -- "the answer is that it stepped; with no object there the answer is END"
 abbrev pub stepAs : Step → Answer
-stepAs Stepped = STEPPED
+stepAs Moved = STEPPED
 stepAs End = END

@@ -2,12 +2,13 @@
 ghost use mathlib.Core.Path.{_≡_};
 ghost use Prim.Native.Nat.{_+_, _≤_};
 ghost use lib.ListN.{length, replicate, take};
-ghost use Rattle.numbers.specs.Limits.{places};
+ghost use Rattle.numbers.specs.Limits.{longestObject};
 ghost use Rattle.numbers.specs.Sums.{range};
+use numbers::LONGEST_OBJECT;
 
 // What NEXT and PREVIOUS answer: the object was replaced by its neighbour, or there is none and no byte changed.
 pub enum Step {
-    Stepped,
+    Moved,
     End,
 }
 
@@ -46,12 +47,12 @@ pub fn copy(part: &mut [u8], from: &[u8])
     }
 }
 
-// The bytes again, in an array with room for as many as a family may have.
-pub fn copied(bytes: &[u8]) -> [u8; 80]
-    requires { ⌜ length (now bytes) ≤ places ⌝ }
-    ensures { λ r. ⌜ (places ≡ length r) × (take (length (now (bytes .entry))) r ≡ now (bytes .entry)) ⌝ }
+// The bytes again, in an array with room for any object.
+pub fn copied(bytes: &[u8]) -> [u8; LONGEST_OBJECT]
+    requires { ⌜ length (now bytes) ≤ longestObject ⌝ }
+    ensures { λ r. ⌜ (longestObject ≡ length r) × (take (length (now (bytes .entry))) r ≡ now (bytes .entry)) ⌝ }
 {
-    let mut space = [0u8; 80];
+    let mut space = [0u8; LONGEST_OBJECT];
     let n = bytes.len();
     copy(&mut space[..n], bytes);
     space

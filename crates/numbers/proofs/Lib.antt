@@ -6,6 +6,7 @@ pub mod Laws
 pub mod Multinomials
 pub mod PartitionLaws
 pub mod Past
+pub mod Positive
 pub mod Ranges
 pub mod Stirlings
 pub mod Tables

@@ -6,6 +6,10 @@ use Prim.Native.Nat.{ℕ}
 abbrev pub places : ℕ
 places = 80
 
+-- the room that any object needs
+abbrev pub longestObject : ℕ
+longestObject = places
+
 -- kind 6: "n branches, 0 to 40"
 abbrev pub branches : ℕ
 branches = 40

@@ -40,15 +40,15 @@ stirlingOf zero (suc k) = 0
 stirlingOf (suc n) zero = 0
 stirlingOf (suc n) (suc k) = stirlingOf n k + suc k * stirlingOf n (suc k)
 
--- k weakly descending parts with the sum n, each at least f: the last is p, and the others are at least p
+-- weakly descending parts, each at least f, with the sum n, k of them: the last is p, and the others are at least p
 unfoldable pub partsFrom : ℕ → ℕ → ℕ → ℕ
-partsFrom zero f zero = 1
-partsFrom zero f (suc n) = 0
-partsFrom (suc k) f n = sumOver (range f (suc n - f)) (λ p. partsFrom k p (n - p))
+partsFrom f zero zero = 1
+partsFrom f (suc n) zero = 0
+partsFrom f n (suc k) = sumOver (range f (suc n - f)) (λ p. partsFrom p (n - p) k)
 
 -- kind 5, "k parts, each at least 1, weakly descending, sum n"
 unfoldable pub partitionsOf : ℕ → ℕ → ℕ
-partitionsOf n k = partsFrom k 1 n
+partitionsOf n k = partsFrom 1 n k
 
 -- the Catalan numbers of n, n - 1, .., 0: the inside has j branches, and the rest the others
 unfoldable pub catalansDown : ℕ → List ℕ

@@ -1,1 +1,11 @@
-// No code: the counts of paper 01's families as unbounded numbers, and their laws. What works them out stands in the crates above.
+// The limits of paper 01's table of families, as specs/Limits.antt has them. The counts as unbounded numbers, and their laws, have no code here:
+// what works them out stands in the crates above.
+
+// "A family has no more than 80 places".
+pub const PLACES: u64 = 80;
+
+// Kind 6: "n branches, 0 to 40".
+pub const BRANCHES: u64 = 40;
+
+// The room that any object needs.
+pub const LONGEST_OBJECT: usize = PLACES as usize;

@@ -7,6 +7,7 @@ use native.Mathlib.Omega.{arith}
 use lib.Dec.{leb, ltb, eqb}
 use lib.ListN.{getD}
 use borrow.Author.Tests.{eqb-true, eq-eqb, leb-true, le-leb, ltb-true, lt-ltb, le-ltb}
+use Rattle.numbers.specs.Limits.{places}
 use Rattle.numbers.specs.Sums.{range}
 use Rattle.numbers.specs.Numbers.{partsFrom, partitionsOf}
 use Rattle.partition_numbers.specs.Words.{words}
@@ -22,10 +23,10 @@ number at = getD words (at % 256) 0 / 2 ^ (21 * (at / 256)) % 2097152
 
 -- what is stored, as `stored` requires it
 abbrev pub Stored : ℕ → ℕ → Type 0
-Stored e j = (j % 2 ≡ 0) × ((j ≤ e + 1) × ((e + j ≤ 81) × (e ≤ 81 * j)))
+Stored e j = (j % 2 ≡ 0) × ((j ≤ e + 1) × ((e + j ≤ places + 1) × (e ≤ (places + 1) * j)))
 
 isStored : ℕ → ℕ → Bool
-isStored e j = eqb (j % 2) 0 && (leb j (e + 1) && (leb (e + j) 81 && leb e (81 * j)))
+isStored e j = eqb (j % 2) 0 && (leb j (e + 1) && (leb (e + j) (places + 1) && leb e ((places + 1) * j)))
 
 abbrev pick : Bool → Bool → Bool → Bool
 pick true a b = a

@@ -1,4 +1,4 @@
-// The number of partitions of n into exactly k parts, n up to 80. A number is named by e = n - k, what is left when each part has one, and its
+// The number of partitions of n into exactly k parts, for all within the places. A number is named by e = n - k, what is left when each part has one, and its
 // column k. Only the even columns are stored, from e = k - 1 on: with more parts than e it makes no difference how many there are. A number of an odd
 // column is the difference of two of the next.
 ghost use mathlib.Core.Path.{_≡_};
@@ -12,8 +12,8 @@ use words::word;
 
 // The even column, at most e + 1, that has the number at e of the column j. It is 0 only where e is 0, which the last of the bounds says.
 fn narrowed(e: u64, j: u64) -> u64
-    requires { ⌜ (j % 2 ≡ 0) × ((0 < j) × (e + j ≤ 81)) ⌝ }
-    ensures { λ r. ⌜ (r % 2 ≡ 0) × ((r ≤ e + 1) × ((e + r ≤ 81) × (e ≤ 81 * r))) ⌝ }
+    requires { ⌜ (j % 2 ≡ 0) × ((0 < j) × (e + j ≤ places + 1)) ⌝ }
+    ensures { λ r. ⌜ (r % 2 ≡ 0) × ((r ≤ e + 1) × ((e + r ≤ places + 1) × (e ≤ (places + 1) * r))) ⌝ }
     ensures { λ r. ⌜ partitionsOf (e + r) r ≡ partitionsOf (e + j) j ⌝ }
 {
     if e < j {
@@ -25,7 +25,7 @@ fn narrowed(e: u64, j: u64) -> u64
 // The number at e of an even column, at most e + 1. Column 2 is worked out; the others stand one after the other, and a word has the numbers of three places, 256
 // apart, in 21 bits each.
 fn stored(e: u64, j: u64) -> u64
-    requires { ⌜ (j % 2 ≡ 0) × ((j ≤ e + 1) × ((e + j ≤ 81) × (e ≤ 81 * j))) ⌝ }
+    requires { ⌜ (j % 2 ≡ 0) × ((j ≤ e + 1) × ((e + j ≤ places + 1) × (e ≤ (places + 1) * j))) ⌝ }
     ensures { λ r. ⌜ r ≡ partitionsOf (e + j) j ⌝ }
 {
     if j < 4 {
@@ -37,7 +37,7 @@ fn stored(e: u64, j: u64) -> u64
 
 // The number at e of an even column.
 fn column(e: u64, j: u64) -> u64
-    requires { ⌜ (j % 2 ≡ 0) × ((0 < j) × (e + j ≤ 81)) ⌝ }
+    requires { ⌜ (j % 2 ≡ 0) × ((0 < j) × (e + j ≤ places + 1)) ⌝ }
     ensures { λ r. ⌜ r ≡ partitionsOf (e + j) j ⌝ }
 {
     stored(e, narrowed(e, j))

@@ -2,9 +2,15 @@
 -- Assumes nothing.
 use mathlib.Core.Path.{_≡_}
 use mathlib.Core.List.{List}
-use Prim.Native.Nat.{ℕ, zero, suc, _+_, _<_}
+use Prim.Native.Nat.{ℕ, zero, suc, _+_, _-_, _<_}
 use lib.ListN.{length, getD}
+use Rattle.numbers.specs.Limits.{places}
 use Rattle.numbers.specs.Numbers.{choose}
+use Rattle.pascal.specs.Triangle.{lastRow}
+
+-- as many entries of the last row as an entry of a row within the limit is worked out from
+abbrev pub width : ℕ
+width = places - lastRow + 1
 
 -- the entry of row n that lies i places before k, and 0 before the row's first
 unfoldable pub back : ℕ → ℕ → ℕ → ℕ

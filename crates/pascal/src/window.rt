@@ -1,15 +1,19 @@
-// Rows 68 to 80 of Pascal's triangle, worked out from row 67 by additions. Each sum on the way is part of the entry that is worked out.
+// The rows of Pascal's triangle from the table's last row to the limit, worked out from that row by additions. Each sum on the way is part of the entry that is worked out.
 ghost use mathlib.Core.Path.{_≡_};
 ghost use Prim.Native.Nat.{ℕ, suc, _+_, _≤_, _<_, _^_};
 ghost use lib.ListN.{length, getD};
 ghost use Rattle.numbers.specs.Limits.{places};
 ghost use Rattle.numbers.specs.Numbers.{choose};
 ghost use Rattle.pascal.specs.Triangle.{lastRow, Triangle};
-ghost use Rattle.pascal.specs.Window.{back, Added};
+ghost use Rattle.pascal.specs.Window.{width, back, Added};
 use crate::LAST_ROW;
 use crate::lent;
+use numbers::PLACES;
 
-// The entry of row 67 that lies i places before k, and 0 before the row's first.
+// As many entries as the last of these rows is worked out from: one more for each row.
+const WIDTH: usize = (PLACES - LAST_ROW) as usize + 1;
+
+// The entry of the last row that lies i places before k, and 0 before the row's first.
 fn before_place(table: &[u64; 2346], k: u64, i: u64) -> u64
     requires { ⌜ Triangle (now table) ⌝ }
     ensures { λ r. ⌜ r ≡ back lastRow k i ⌝ }
@@ -24,14 +28,14 @@ fn before_place(table: &[u64; 2346], k: u64, i: u64) -> u64
     lent::entry(table, LAST_ROW, at)
 }
 
-// The part of row 67 that an entry k of the rows up to 80 is worked out from: the entries k, k - 1, .., k - 13.
-fn last_row(table: &[u64; 2346], k: u64) -> [u64; 14]
+// The part of the last row that an entry k of the rows above is worked out from: the entry k and those in front of it.
+fn last_row(table: &[u64; 2346], k: u64) -> [u64; WIDTH]
     requires { ⌜ Triangle (now table) ⌝ }
-    ensures { λ r. ⌜ ((i : ℕ) → i < 14 → getD r i 0 ≡ back lastRow k i) ⌝ }
+    ensures { λ r. ⌜ ((i : ℕ) → i < width → getD r i 0 ≡ back lastRow k i) ⌝ }
 {
-    let mut w = [0u64; 14];
+    let mut w = [0u64; WIDTH];
     let mut i: usize = 0;
-    while i < 14 {
+    while i < WIDTH {
         w[i] = before_place(table, k, i as u64);
         i += 1;
     }

@@ -17,7 +17,8 @@ use Rattle.listings.proofs.Bools.{true-or-false}
 use Rattle.families.specs.declared.Family.{Family}
 use Rattle.families.specs.Table.{Lent}
 use Rattle.families.specs.Calls.{respond}
-use Rattle.replay.specs.Codes.{callOf, known, answerCode}
+use Rattle.families.specs.Codes.{codeOf, Coded, coded}
+use Rattle.replay.specs.Codes.{callOf, known}
 
 -- a code that is none of 2 to 5 is read as FIRST
 pub otherwise-first : (code r : ℕ) → (code ≡ 2 → ⊥) → (code ≡ 3 → ⊥) → (code ≡ 4 → ⊥) → (code ≡ 5 → ⊥) → callOf code r ≡ FIRST
@@ -30,10 +31,10 @@ otherwise-first (suc (suc (suc (suc zero)))) r a b c d = absurd (c refl)
 otherwise-first (suc (suc (suc (suc (suc zero))))) r a b c d = absurd (d refl)
 otherwise-first (suc (suc (suc (suc (suc (suc n)))))) r a b c d = refl
 
--- a call's equation, read as the code of its answer and the bytes that it left
-pub coded : {c call : Call} (f : Family) (b : Lent) (x : Bytes) {y : Bytes} (a : Answer) {code : ℕ} → c ≡ call → _≡_ {A = Said} (a, y) (respond call f b x) → code ≡ answerCode a
-    → (code ≡ answerCode (respond c f b x .0)) × (y ≡ respond c f b x .1)
-coded f b x a same said ec = rw same (ec ∙ ap (λ (s : Said). answerCode (s .0)) said, ap (λ (s : Said). s .1) said)
+-- a call's equation, with the answer's code in its place
+pub coding : {c call : Call} (f : Family) (b : Lent) (x : Bytes) {y : Bytes} (a : Answer) {code : ℕ} → c ≡ call → _≡_ {A = Said} (a, y) (respond call f b x) → code ≡ codeOf a
+    → _≡_ {A = Coded} (code, y) (coded (respond c f b x))
+coding f b x {y} a same said ec = rw same (ap (λ (n : ℕ). (n, y)) ec ∙ ap (λ (s : Said). coded s) said)
 
 -- whether the codes from the i-th on are known depends on the i-th
 module _ (cs : List ℕ) (i : ℕ) (inside : i < length cs) where

@@ -13,8 +13,9 @@ use Rattle.listings.specs.Runs.{finally}
 use Rattle.families.specs.declared.Family.{Family}
 use Rattle.families.specs.Table.{Lent}
 use Rattle.families.specs.Calls.{respond, run}
-use Rattle.replay.specs.Codes.{callOf, callsOf, answerCode}
-use Rattle.replay.specs.Record.{codesOf, trailOf}
+use Rattle.families.specs.Codes.{Coded, coded}
+use Rattle.replay.specs.Codes.{callOf, callsOf}
+use Rattle.replay.specs.Record.{codesOf, trailOf, buffers, kept}
 
 -- bytes put at a place are what is read behind what stood before it
 pub stored : (at : ℕ) (w x rest : Bytes) → at ≤ length w → take (at + length x) (take at w ++ (x ++ rest)) ≡ take at w ++ x
@@ -24,11 +25,11 @@ stored at w x rest h =
 
 module _ (f : Family) (b : Lent) (s : Bytes) (calls ranks : List ℕ) where
   abbrev whole : List Said
-  whole = run f b s (callsOf calls ranks)
+  whole = run (callsOf calls ranks) f b s
 
   -- what the calls from the i-th on give, on the bytes x
   abbrev todo : ℕ → Bytes → List Said
-  todo i x = run f b x (callsOf (drop i calls) (drop i ranks))
+  todo i x = run (callsOf (drop i calls) (drop i ranks)) f b x
 
   -- what the i-th call gives on the bytes x
   abbrev said : ℕ → Bytes → Said
@@ -50,11 +51,13 @@ module _ (f : Family) (b : Lent) (s : Bytes) (calls ranks : List ℕ) where
 
     -- a turn: the i-th call's code is stored at i, and the bytes that it left behind those before
     pub turn : {i at : ℕ} {x : Bytes} {answers : List ℕ} {trail : Bytes} (code : ℕ) (y trail' : Bytes) → Standing i at x answers trail → i < length calls → length answers ≡ length calls
-        → code ≡ answerCode (said i x .0) → y ≡ said i x .1 → take (at + length y) trail' ≡ take at trail ++ y
+        → _≡_ {A = Coded} (code, y) (coded (said i x)) → take (at + length y) trail' ≡ take at trail ++ y
         → Standing (i + 1) (at + length y) y (set answers i code) trail'
     unfolding codesOf trailOf flatMap finally
-    turn {i} {at} {x} {answers} {trail} code y trail' st inside long ec ey et =
+    turn {i} {at} {x} {answers} {trail} code y trail' st inside long e et =
         let more = one-more i x inside in
+        let ec = ap (λ (p : Coded). p .0) e in
+        let ey = ap (λ (p : Coded). p .1) e in
         rw (add-one, ey) record {
           codes = rw (take-suc-set answers i code (omega arith), append-snoc, ec) (rw more at (st .codes));
           bytes = ap (λ (l : Bytes). l ++ trailOf (todo (suc i) (said i x .1))) (rw ey at et) ∙ append-assoc (take at trail) (said i x .1) (trailOf (todo (suc i) (said i x .1))) ∙ rw more at (st .bytes);
@@ -63,10 +66,11 @@ module _ (f : Family) (b : Lent) (s : Bytes) (calls ranks : List ℕ) where
 
     -- after the last call the record is whole
     pub over : {i at : ℕ} {x : Bytes} {answers : List ℕ} {trail : Bytes} → Standing i at x answers trail → i ≡ length calls → i ≡ length answers → at ≡ length trail
-        → (answers ≡ codesOf whole) × ((trail ≡ trailOf whole) × (x ≡ finally s whole))
-    unfolding codesOf trailOf flatMap finally run responses callsOf
+        → buffers x answers trail ≡ kept s whole
+    unfolding kept codesOf trailOf flatMap finally run responses callsOf
     over {i} {at} {x} {answers} {trail} st e ea et =
-        let none : todo i x ≡ [] = rw (e, drop-length calls) in (
-          rw (none, append-nil, take-all i answers (omega arith)) at (st .codes),
-          (rw (none, append-nil, take-all at trail (omega arith)) at (st .bytes), rw none at (st .end)),
-        )
+        let none : todo i x ≡ [] = rw (e, drop-length calls) in
+        let codes = rw (none, append-nil, take-all i answers (omega arith)) at (st .codes) in
+        let bytes = rw (none, append-nil, take-all at trail (omega arith)) at (st .bytes) in
+        let end = rw none at (st .end) in
+        λ j. buffers (end j) (codes j) (bytes j)

@@ -1,11 +1,11 @@
--- Calls and answers as numbers, for lists of them in lent buffers.
+-- Calls as numbers, for lists of them in lent buffers.
 -- Assumes nothing.
 use mathlib.Core.Bool.{Bool, true, _&&_}
 use mathlib.Core.List.{List, [], _∷_}
 use Prim.Native.Nat.{ℕ}
 use lib.Dec.{leb}
 use lib.ListN.{getD}
-use Rattle.listings.specs.Calls.{Call, FIRST, LAST, NEXT, PREVIOUS, UNRANK, Answer, REFUSED, COUNTED, RANKED, WRITTEN, STEPPED, END}
+use Rattle.listings.specs.Calls.{Call, FIRST, LAST, NEXT, PREVIOUS, UNRANK}
 
 -- 1 FIRST, 2 LAST, 3 NEXT, 4 PREVIOUS, 5 UNRANK with the rank beside it
 unfoldable pub callOf : ℕ → ℕ → Call
@@ -21,12 +21,3 @@ callsOf (c ∷ cs) (r ∷ rs) = callOf c r ∷ callsOf cs rs
 unfoldable pub known : List ℕ → Bool
 known [] = true
 known (c ∷ cs) = leb 1 c && leb c 5 && known cs
-
--- a refusal is its number; 20 written, 21 stepped, 22 END (COUNT and RANK are not among the five)
-unfoldable pub answerCode : Answer → ℕ
-answerCode (REFUSED q) = q
-answerCode (COUNTED n) = 0
-answerCode (RANKED n) = 0
-answerCode WRITTEN = 20
-answerCode STEPPED = 21
-answerCode END = 22

@@ -1,7 +1,6 @@
 -- What a replay leaves in its buffers: the marker's run.
 -- Assumes nothing.
-use mathlib.Core.Path.{_≡_}
-use mathlib.Core.Bool.{Bool, true, false, _&&_}
+use mathlib.Core.Bool.{Bool, cond, _&&_}
 use mathlib.Core.List.{List, map, flatMap}
 use Prim.Native.Nat.{ℕ, _*_}
 use lib.Dec.{eqb}
@@ -10,30 +9,42 @@ use Rattle.listings.specs.Bytes.{Bytes}
 use Rattle.listings.specs.Calls.{Said}
 use Rattle.listings.specs.Runs.{finally}
 use Rattle.families.specs.declared.Family.{Family}
-use Rattle.families.specs.Table.{lent}
+use Rattle.families.specs.Table.{Lent}
+use Rattle.families.specs.Codes.{codeOf}
 use Rattle.families.specs.Marker.{marker}
 use Rattle.replay.specs.declared.Replayed.{Replayed}
 use Rattle.replay.specs.declared.Replayed.the-variants.{Ran, Misfit}
-use Rattle.replay.specs.Codes.{callsOf, known, answerCode}
+use Rattle.replay.specs.Codes.{callsOf, known}
 
--- every code is known, a rank and an answer for each call, and room for the object after each
-unfoldable pub buffersFit : List ℕ → List ℕ → Bytes → List ℕ → Bytes → Bool
-buffersFit calls ranks object answers trail =
-    known calls && eqb (length ranks) (length calls) && eqb (length answers) (length calls) && eqb (length trail) (length calls * length object)
-
-unfoldable pub codesOf : List Said → List ℕ
-codesOf run = map (λ s. answerCode (s .0)) run
-
-unfoldable pub trailOf : List Said → Bytes
-trailOf run = flatMap (λ s. s .1) run
-
--- the buffers before, and after
+-- the buffers that a replay writes
 pub record Buffers : Type 0 where
   pub object : Bytes
   pub answers : List ℕ
   pub trail : Bytes
 
--- where the buffers fit, the record is the marker's run and the object's bytes are the marker's at the end; else nothing changed
-pub record Recorded (f : Family) (counts calls ranks : List ℕ) (before after : Buffers) (r : Replayed) : Type 0 where
-  pub ran : buffersFit calls ranks (before .object) (before .answers) (before .trail) ≡ true → (r ≡ Ran) × ((after .answers ≡ codesOf (marker f (lent counts) (before .object) (callsOf calls ranks))) × ((after .trail ≡ trailOf (marker f (lent counts) (before .object) (callsOf calls ranks))) × (after .object ≡ finally (before .object) (marker f (lent counts) (before .object) (callsOf calls ranks)))))
-  pub misfit : buffersFit calls ranks (before .object) (before .answers) (before .trail) ≡ false → (r ≡ Misfit) × (after ≡ before)
+abbrev pub buffers : Bytes → List ℕ → Bytes → Buffers
+buffers object answers trail = record { object = object; answers = answers; trail = trail }
+
+-- every code is known, a rank and an answer for each call, and room for the object after each
+unfoldable pub buffersFit : List ℕ → List ℕ → Buffers → Bool
+buffersFit calls ranks b =
+    known calls && eqb (length ranks) (length calls) && eqb (length (b .answers)) (length calls) && eqb (length (b .trail)) (length calls * length (b .object))
+
+unfoldable pub codesOf : List Said → List ℕ
+codesOf run = map (λ s. codeOf (s .0)) run
+
+unfoldable pub trailOf : List Said → Bytes
+trailOf run = flatMap (λ s. s .1) run
+
+-- a run from the bytes x, in the buffers: the bytes at its end, the code of every answer, and the bytes after every call
+unfoldable pub kept : Bytes → List Said → Buffers
+kept x run = buffers (finally x run) (codesOf run) (trailOf run)
+
+-- what a replay answers, and its buffers
+abbrev pub Outcome : Type 0
+Outcome = Replayed × Buffers
+
+-- where the buffers fit, they keep the marker's run; else nothing is changed
+unfoldable pub outcome : List ℕ → List ℕ → Family → Lent → Buffers → Outcome
+outcome calls ranks f lists b =
+    cond (buffersFit calls ranks b) (Ran, kept (b .object) (marker (callsOf calls ranks) f lists (b .object))) (Misfit, b)

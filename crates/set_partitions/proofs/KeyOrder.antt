@@ -14,12 +14,12 @@ use borrow.Author.Tests.{lt-ltb, eq-eqb}
 use Rattle.numbers.specs.Sums.{range, sumOver}
 use Rattle.numbers.proofs.Laws.{length-range, between, in-range}
 use Rattle.listings.specs.Bytes.{Bytes}
-use Rattle.listings.specs.Orders.{lastDiffers}
+use Rattle.listings.specs.Orders.{colexBefore}
 use Rattle.listings.specs.Places.{At, Follows, First, Last}
 use Rattle.listings.specs.Listings.{Ascending, more, StrictTotal}
 use Rattle.listings.proofs.AscendingRules.{ascending-range}
 use Rattle.listings.proofs.Bools.{and-makes, or-left, or-right}
-use Rattle.listings.proofs.OrderFacts.{last-irreflexive, last-transitive, last-total, last-snoc}
+use Rattle.listings.proofs.OrderFacts.{colex-irreflexive, colex-transitive, colex-total, colex-snoc}
 use Rattle.set_partitions.specs.Objects.{isSetPartition, keys, setPartitionBefore}
 use Rattle.set_partitions.specs.Listing.{keysInOrder}
 use Rattle.set_partitions.proofs.Facts.{partition-cases, keys-long, keys-one, keys-put-on}
@@ -88,7 +88,7 @@ keys-before k b h = ap {B = Bytes} (λ l. 0 ∷ l) (take-range 1 k b h)
 module _ (n k c d : ℕ) (x y : Bytes) (h : c ≤ suc k) (i : d ≤ suc k) (o : isSetPartition n (othersIn k c) x ≡ true) (p : isSetPartition n (othersIn k d) y ≡ true) where
   pub before-put-on : setPartitionBefore (x ++ (blockOf k c ∷ [])) (y ++ (blockOf k d ∷ [])) ≡ (keyBefore c d || (eqb c d && setPartitionBefore x y))
   unfolding setPartitionBefore
-  before-put-on = rw (keys-put-on n k c x h o, keys-put-on n k d y i p) (last-snoc (keys 0 x) (keys 0 y) c d (keys-long n (othersIn k c) x o ∙ sym (keys-long n (othersIn k d) y p)))
+  before-put-on = rw (keys-put-on n k c x h o, keys-put-on n k d y i p) (colex-snoc (keys 0 x) (keys 0 y) c d (keys-long n (othersIn k c) x o ∙ sym (keys-long n (othersIn k d) y p)))
 
   pub before-less : keyBefore c d ≡ true → setPartitionBefore (x ++ (blockOf k c ∷ [])) (y ++ (blockOf k d ∷ [])) ≡ true
   before-less e = before-put-on ∙ or-left (eqb c d && setPartitionBefore x y) e
@@ -98,10 +98,10 @@ module _ (n k c d : ℕ) (x y : Bytes) (h : c ≤ suc k) (i : d ≤ suc k) (o : 
 
 before-total : (n k : ℕ) (x y : Bytes) → isSetPartition n k x ≡ true → isSetPartition n k y ≡ true → (setPartitionBefore x y ≡ true) ⊎ ((x ≡ y) ⊎ (setPartitionBefore y x ≡ true))
 unfolding setPartitionBefore
-before-total n k x y o p = step (last-total (keys 0 x) (keys 0 y) (keys-long n k x o ∙ sym (keys-long n k y p)))
+before-total n k x y o p = step (colex-total (keys 0 x) (keys 0 y) (keys-long n k x o ∙ sym (keys-long n k y p)))
   where
-    step : (lastDiffers (keys 0 x) (keys 0 y) ≡ true) ⊎ ((keys 0 x ≡ keys 0 y) ⊎ (lastDiffers (keys 0 y) (keys 0 x) ≡ true))
-        → (lastDiffers (keys 0 x) (keys 0 y) ≡ true) ⊎ ((x ≡ y) ⊎ (lastDiffers (keys 0 y) (keys 0 x) ≡ true))
+    step : (colexBefore (keys 0 x) (keys 0 y) ≡ true) ⊎ ((keys 0 x ≡ keys 0 y) ⊎ (colexBefore (keys 0 y) (keys 0 x) ≡ true))
+        → (colexBefore (keys 0 x) (keys 0 y) ≡ true) ⊎ ((x ≡ y) ⊎ (colexBefore (keys 0 y) (keys 0 x) ≡ true))
     step (inl e) = inl e
     step (inr (inl e)) = inr (inl (keys-one 0 k k x y (partition-cases n k x o .1) (partition-cases n k y p .1) e))
     step (inr (inr e)) = inr (inr e)
@@ -109,7 +109,7 @@ before-total n k x y o p = step (last-total (keys 0 x) (keys 0 y) (keys-long n k
 pub before-strict : (n k : ℕ) → StrictTotal (isSetPartition n k) setPartitionBefore
 unfolding setPartitionBefore
 before-strict n k = record {
-  irreflexive = λ x o. last-irreflexive (keys 0 x);
-  transitive = λ x y z o p q. last-transitive (keys 0 x) (keys 0 y) (keys 0 z);
+  irreflexive = λ x o. colex-irreflexive (keys 0 x);
+  transitive = λ x y z o p q. colex-transitive (keys 0 x) (keys 0 y) (keys 0 z);
   total = before-total n k;
 }

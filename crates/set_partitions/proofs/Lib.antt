@@ -2,6 +2,7 @@
 pub mod Facts
 pub mod KeyOrder
 pub mod Theorem
+pub mod Laws
 pub mod KeySteps
 pub mod Parts
 pub mod KeyEnds

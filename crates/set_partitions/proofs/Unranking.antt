@@ -8,6 +8,7 @@ use native.Mathlib.Decide.{decLt}
 use native.Mathlib.Omega.{arith}
 use lib.ListN.{length, take, drop, set, length-append, length-set, length-take, take-append-drop}
 use lib.Seq.{take-set-le, take-take, take-at, drop-at, append-snoc, length-take-le}
+use Rattle.numbers.specs.Limits.{longestObject}
 use Rattle.numbers.specs.Numbers.{stirlingOf}
 use Rattle.numbers.specs.Sums.{range}
 use Rattle.numbers.proofs.Stirlings.{stirling-rule, stirling-none, stirling-zero, stirling-all, stirling-positive}
@@ -24,7 +25,7 @@ pub few-where-some : (n k r : ℕ) → r < stirlingOf n k → k ≤ n
 few-where-some n k r h = elim (decLt n k) [ yes g ↦ absurd (omega (arith, stirling-none n k g)) | no g ↦ omega arith ]
 
 -- with as many blocks as models, each is alone
-pub alone-written : (n k r : ℕ) (x : Bytes) → n ≤ k → r < stirlingOf n k → take n x ≡ range 1 n → Written n k r x x
+pub alone-written : (n k r : ℕ) (x : Bytes) → n ≤ k → r < stirlingOf n k → take n x ≡ range 1 n → Written r n k x x
 alone-written n k r x h below e =
     let same : n ≡ k = omega (arith, few-where-some n k r below) in
     let none : 0 ≡ r = omega (arith, below, ap (stirlingOf n) same, stirling-all n) in
@@ -84,7 +85,7 @@ module _ (n k r c s : ℕ) (some : 0 < n) (p : Split n k r) (q : Placed r (stirl
       subst₂ (λ m i. At (setPartitions m i) (y ++ (blockOf (k - 1) c ∷ [])) r) up more (subst (At (setPartitions (suc (n - 1)) (suc (k - 1))) (y ++ (blockOf (k - 1) c ∷ []))) place at)
 
   -- the others behind a last place that was set
-  module _ (x y : Bytes) (room : n ≤ length x) (w : Written (n - 1) (othersIn (k - 1) c) s (set x (n - 1) (blockOf (k - 1) c)) y) where
+  module _ (x y : Bytes) (room : n ≤ length x) (w : Written s (n - 1) (othersIn (k - 1) c) (set x (n - 1) (blockOf (k - 1) c)) y) where
     long : length y ≡ length x
     long = w .size ∙ length-set x (n - 1) (blockOf (k - 1) c)
 
@@ -103,7 +104,7 @@ module _ (n k r c s : ℕ) (some : 0 < n) (p : Split n k r) (q : Placed r (stirl
     unfolding front
     front-long = rw length-append (omega (arith, length-take-le (n - 1) y (omega (arith, long))))
 
-    pub written : Written n k r x y
+    pub written : Written r n k x y
     unfolding front
     written = record {
       there = subst (λ z. At (setPartitions n k) z r) (sym (take-at (front ++ (blockOf (k - 1) c ∷ [])) (drop n x) n front-long) ∙ ap (take n) in-two) (key-put (w .there));
@@ -123,15 +124,15 @@ still-alone n v x some e =
     ∙ ap (take (n - 1)) (e ∙ ap (range 1) (sym up) ∙ range-add 1 (n - 1) 1)
     ∙ take-at (range 1 (n - 1)) (range (1 + (n - 1)) 1) (n - 1) (length-range 1 (n - 1))
 
-pub first-alone : (n : ℕ) (x : Bytes) → n ≤ 80 → x ≡ range 1 80 → take n x ≡ range 1 n
+pub first-alone : (n : ℕ) (x : Bytes) → n ≤ longestObject → x ≡ range 1 longestObject → take n x ≡ range 1 n
 first-alone n x h e =
-    let all : n + (80 - n) ≡ 80 = omega arith in
-    ap (take n) (e ∙ ap (range 1) (sym all) ∙ range-add 1 n (80 - n)) ∙ take-at (range 1 n) (range (1 + n) (80 - n)) n (length-range 1 n)
+    let all : n + (longestObject - n) ≡ longestObject = omega arith in
+    ap (take n) (e ∙ ap (range 1) (sym all) ∙ range-add 1 n (longestObject - n)) ∙ take-at (range 1 n) (range (1 + n) (longestObject - n)) n (length-range 1 n)
 
 -- an array with all the places, and as long after it was written
-module _ (n : ℕ) (x y : Bytes) (h : n ≤ 80) (e : x ≡ range 1 80) (size : length y ≡ length x) where
+module _ (n : ℕ) (x y : Bytes) (h : n ≤ longestObject) (e : x ≡ range 1 longestObject) (size : length y ≡ length x) where
   pub enough : n ≤ length y
-  enough = omega (arith, size, ap length e, length-range 1 80)
+  enough = omega (arith, size, ap length e, length-range 1 longestObject)
 
   pub cut : length (take n y) ≡ n
   cut = length-take-le n y enough

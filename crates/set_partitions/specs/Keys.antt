@@ -38,7 +38,7 @@ backBy w zero = 1
 backBy w (suc b) = w
 
 -- the partition of a rank has been written to the first n places, and to no other
-pub record Written (n k rank : ℕ) (from to : Bytes) : Type 0 where
+pub record Written (rank n k : ℕ) (from to : Bytes) : Type 0 where
   pub there : At (setPartitions n k) (take n to) rank
   pub size : length to ≡ length from
   pub kept : drop n to ≡ drop n from

@@ -7,7 +7,7 @@ use Prim.Native.Nat.{ℕ, suc, max}
 use lib.Dec.{leb, ltb, eqb}
 use lib.ListN.{length}
 use Rattle.listings.specs.Bytes.{Bytes}
-use Rattle.listings.specs.Orders.{lastDiffers}
+use Rattle.listings.specs.Orders.{colexBefore}
 
 -- with the blocks 1 to m used so far, the next model is in one of them or is the smallest of block m + 1; at the end all k are used
 unfoldable pub opens : ℕ → ℕ → Bytes → Bool
@@ -36,4 +36,4 @@ pub record KeysOf (n k : ℕ) (ks : Bytes) : Type 0 where
 
 -- "At the largest i whose keys differ, the smaller key"
 unfoldable pub setPartitionBefore : Bytes → Bytes → Bool
-setPartitionBefore x y = lastDiffers (keys 0 x) (keys 0 y)
+setPartitionBefore x y = colexBefore (keys 0 x) (keys 0 y)

@@ -4,9 +4,10 @@ ghost use mathlib.Core.Path.{_≡_};
 ghost use mathlib.Core.Bool.{true};
 ghost use Prim.Native.Nat.{_+_, _≤_, _<_, _^_};
 ghost use lib.ListN.{length, take};
-ghost use Rattle.numbers.specs.Limits.{places};
+ghost use Rattle.numbers.specs.Limits.{places, longestObject};
 ghost use Rattle.numbers.specs.Numbers.{stirlingOf};
 ghost use Rattle.numbers.specs.Sums.{range};
+ghost use Rattle.stirling_rows.specs.Stored.{lastRow};
 ghost use Rattle.stirlings.specs.Band.{Reaches};
 ghost use Rattle.listings.specs.Bytes.{Bytes};
 ghost use Rattle.listings.specs.Calls.{NEXT, PREVIOUS, Said, act};
@@ -28,12 +29,17 @@ use listings::Step;
 use listings::copy;
 use listings::fill_up;
 use listings::fill_with;
+use numbers::LONGEST_OBJECT;
 use search::block_to_lower;
 use search::block_to_raise;
 use search::keys_of;
+use stirling_rows::LAST_ROW;
 use stirling_rows::both;
 use stirlings::CAPACITY;
 use stirlings::fill;
+
+// So few models have their numbers stored.
+const FEW: usize = LAST_ROW as usize;
 
 // Does the slice hold a partition of n models into k blocks?
 pub fn is_object(n: u64, k: u64, object: &[u8]) -> bool
@@ -97,11 +103,11 @@ pub fn next(k: u64, object: &mut [u8]) -> Step
     if b < used {
         object[i] = b + 1;
         first(used as u64, &mut object[..i]);
-        return Step::Stepped;
+        return Step::Moved;
     }
     object[i] = 1;
     first(used as u64 + 1, &mut object[..i]);
-    Step::Stepped
+    Step::Moved
 }
 
 // The first model whose key can go down does, and the models in front of it become the latest.
@@ -119,17 +125,17 @@ pub fn previous(k: u64, object: &mut [u8]) -> Step
     if 1 < b {
         object[i] = b - 1;
         last(used as u64, &mut object[..i]);
-        return Step::Stepped;
+        return Step::Moved;
     }
     object[i] = used;
     last(used as u64 - 1, &mut object[..i]);
-    Step::Stepped
+    Step::Moved
 }
 
 // By the keys of n models: through the rank of the partition left when the last of them is taken out. With as many blocks as models there is one
 // partition. The numbers are stored.
-fn rank_of_few(n: usize, k: u64, keys: &[u8; 80]) -> u64
-    requires { ⌜ (n ≤ 26) × (stirlingOf n k < 2 ^ 64) ⌝ }
+fn rank_of_few(n: usize, k: u64, keys: &[u8; LONGEST_OBJECT]) -> u64
+    requires { ⌜ (n ≤ lastRow) × (stirlingOf n k < 2 ^ 64) ⌝ }
     requires { ⌜ KeysOf n k (take n (now keys)) ⌝ }
     ensures { λ r. ⌜ ((x : Bytes) → isSetPartition n k x ≡ true → take n (now (keys .entry)) ≡ keysIn 0 x → r ≡ countBefore setPartitionBefore x (setPartitions n k)) ⌝ }
 {
@@ -145,7 +151,14 @@ fn rank_of_few(n: usize, k: u64, keys: &[u8; 80]) -> u64
 
 // The same out of a band, which has the number of all partitions at `at`: that of those with the last model alone one place before, and with it in a
 // given block a row before.
-fn rank_of(n: usize, k: u64, keys: &[u8; 80], band: &[u64; CAPACITY], w: usize, at: usize) -> u64
+fn rank_of(
+    n: usize,
+    k: u64,
+    keys: &[u8; LONGEST_OBJECT],
+    band: &[u64; CAPACITY],
+    w: usize,
+    at: usize,
+) -> u64
     requires { ⌜ (n ≤ places) × (stirlingOf n k < 2 ^ 64) ⌝ }
     requires { ⌜ KeysOf n k (take n (now keys)) ⌝ }
     requires { ⌜ Reaches (now band) w at n k ⌝ }
@@ -169,7 +182,7 @@ pub fn rank(k: u64, object: &[u8]) -> u64
 {
     let keys = keys_of(object);
     let n = object.len();
-    if n <= 26 {
+    if n <= FEW {
         return rank_of_few(n, k, &keys);
     }
     let mut numbers = [1u64; CAPACITY];
@@ -180,11 +193,11 @@ pub fn rank(k: u64, object: &[u8]) -> u64
 
 // The partition of a rank, of n models: the key of the last model, and the partition of the others. The n places have each model in a block of its
 // own, as is right where there are as many blocks as models. The numbers are stored.
-fn write_few(n: usize, k: u64, rank: u64, blocks: &mut [u8; 80])
-    requires { ⌜ n ≤ 26 ⌝ }
+fn write_few(rank: u64, n: usize, k: u64, blocks: &mut [u8; LONGEST_OBJECT])
+    requires { ⌜ n ≤ lastRow ⌝ }
     requires { ⌜ (rank < stirlingOf n k) × (rank + 1 < 2 ^ 64) ⌝ }
     requires { ⌜ take n (now blocks) ≡ range 1 n ⌝ }
-    ensures { λ _. ⌜ Written n k rank (now (blocks .entry)) (now (blocks .exit)) ⌝ }
+    ensures { λ _. ⌜ Written rank n k (now (blocks .entry)) (now (blocks .exit)) ⌝ }
 {
     if n as u64 <= k {
         return;
@@ -194,15 +207,15 @@ fn write_few(n: usize, k: u64, rank: u64, blocks: &mut [u8; 80])
     let last = place_at(rank, numbers.0, numbers.1);
     let key = last.0;
     blocks[end] = block_of(k, key);
-    write_few(end, others_in(k, key), last.1, blocks);
+    write_few(last.1, end, others_in(k, key), blocks);
 }
 
 // The same out of a band, which is as for `rank_of`.
 fn write_many(
+    rank: u64,
     n: usize,
     k: u64,
-    rank: u64,
-    blocks: &mut [u8; 80],
+    blocks: &mut [u8; LONGEST_OBJECT],
     band: &[u64; CAPACITY],
     w: usize,
     at: usize,
@@ -211,7 +224,7 @@ fn write_many(
     requires { ⌜ (rank < stirlingOf n k) × (rank + 1 < 2 ^ 64) ⌝ }
     requires { ⌜ take n (now blocks) ≡ range 1 n ⌝ }
     requires { ⌜ Reaches (now band) w at n k ⌝ }
-    ensures { λ _. ⌜ Written n k rank (now (blocks .entry)) (now (blocks .exit)) ⌝ }
+    ensures { λ _. ⌜ Written rank n k (now (blocks .entry)) (now (blocks .exit)) ⌝ }
 {
     if n as u64 <= k {
         return;
@@ -221,9 +234,9 @@ fn write_many(
     let key = last.0;
     blocks[end] = block_of(k, key);
     write_many(
+        last.1,
         end,
         others_in(k, key),
-        last.1,
         blocks,
         band,
         w,
@@ -232,16 +245,16 @@ fn write_many(
 }
 
 // Each model in a block of its own.
-fn each_alone() -> [u8; 80]
-    ensures { λ r. ⌜ r ≡ range 1 places ⌝ }
+fn each_alone() -> [u8; LONGEST_OBJECT]
+    ensures { λ r. ⌜ r ≡ range 1 longestObject ⌝ }
 {
-    let mut blocks = [0u8; 80];
+    let mut blocks = [0u8; LONGEST_OBJECT];
     fill_up(&mut blocks, 1);
     blocks
 }
 
 // The object of a rank.
-pub fn unrank(k: u64, rank: u64, object: &mut [u8])
+pub fn unrank(rank: u64, k: u64, object: &mut [u8])
     requires { ⌜ length (now object) ≤ places ⌝ }
     requires { ⌜ stirlingOf (length (now object)) k < 2 ^ 64 ⌝ }
     requires { ⌜ rank < stirlingOf (length (now object)) k ⌝ }
@@ -249,8 +262,8 @@ pub fn unrank(k: u64, rank: u64, object: &mut [u8])
 {
     let n = object.len();
     let mut blocks = each_alone();
-    if n <= 26 {
-        write_few(n, k, rank, &mut blocks);
+    if n <= FEW {
+        write_few(rank, n, k, &mut blocks);
         copy(object, &blocks[..n]);
         return;
     }
@@ -258,9 +271,9 @@ pub fn unrank(k: u64, rank: u64, object: &mut [u8])
     fill(n as u64, k, &mut numbers);
     let w = k as usize + 1;
     write_many(
+        rank,
         n,
         k,
-        rank,
         &mut blocks,
         &numbers,
         w,

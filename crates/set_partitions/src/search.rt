@@ -3,9 +3,10 @@ ghost use mathlib.Core.Path.{_≡_};
 ghost use Prim.Native.Nat.{_≤_, _<_};
 ghost use lib.Dec.{ltb};
 ghost use lib.ListN.{length, take};
-ghost use Rattle.numbers.specs.Limits.{places};
+ghost use Rattle.numbers.specs.Limits.{longestObject};
 ghost use Rattle.set_partitions.specs.Objects.{keyOf, keys as keysIn};
 ghost use Rattle.set_partitions.specs.Moves.{rises, sinks, Reached};
+use numbers::LONGEST_OBJECT;
 
 // Can the key of a model in block b go up, behind as many models as its place says and the last of them in block `used`?
 fn can_rise(place: usize, used: u8, b: u8) -> bool
@@ -59,11 +60,11 @@ fn key_of(used: u8, b: u8) -> u8
 
 // The key of each model. Blocks are numbered by their smallest models, so a model is the smallest of its block just if its block is above all
 // in front: one pass tells them all.
-pub fn keys_of(object: &[u8]) -> [u8; 80]
-    requires { ⌜ length (now object) ≤ places ⌝ }
-    ensures { λ r. ⌜ (places ≡ length r) × (take (length (now (object .entry))) r ≡ keysIn 0 (now (object .entry))) ⌝ }
+pub fn keys_of(object: &[u8]) -> [u8; LONGEST_OBJECT]
+    requires { ⌜ length (now object) ≤ longestObject ⌝ }
+    ensures { λ r. ⌜ (longestObject ≡ length r) × (take (length (now (object .entry))) r ≡ keysIn 0 (now (object .entry))) ⌝ }
 {
-    let mut keys = [0u8; 80];
+    let mut keys = [0u8; LONGEST_OBJECT];
     let mut used: u8 = 0;
     let mut i = 0;
     while i < object.len() {

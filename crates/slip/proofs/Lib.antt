@@ -1,7 +1,6 @@
--- The laws of lines, what the calls say along a listing, how long a text is, and the specification's worked output.
+-- The laws of lines, how long a text is, and the specification's worked output.
 pub mod LineLaws
 pub mod Sizes
 pub mod SlipLaws
 pub mod Worked
 pub mod Lines
-pub mod Listed

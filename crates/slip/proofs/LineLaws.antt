@@ -13,8 +13,9 @@ use borrow.Author.Tests.{eq-eqb, ne-eqb}
 use Rattle.listings.specs.Bytes.{Bytes}
 use Rattle.families.specs.declared.Family.{Family}
 use Rattle.columns.specs.Columns.{newline}
-use Rattle.slip.specs.Grammar.{Slip, consField, fields, line, secondLine, handedOn, withCounts}
-use Rattle.columns.specs.Fields.{onlyIf, field}
+use Rattle.slip.specs.Grammar.{Slip, consField, fields, line, countsOn, secondLine, handedOn, withCounts, slipWith}
+use Rattle.columns.specs.Fields.{fieldWidth, field}
+use Rattle.slip.specs.Sizes.{lineWidth}
 use Rattle.slip.specs.Reading.{AtMost}
 use Rattle.slip.specs.declared.grammar.Parsed.the-variants.{Slip as Read, Malformed}
 
@@ -23,14 +24,14 @@ abbrev pub after : List ℕ → Option (List ℕ) → Option (List ℕ)
 after p o = Option·map (λ (cs : List ℕ). p ++ cs) o
 
 -- the field at a, as the code cuts it out
-pub field-at : (x : Bytes) (a : ℕ) → field (take (a + 4 - a) (drop a x)) ≡ field (take 4 (drop a x))
-field-at x a = let e : a + 4 - a ≡ 4 = omega arith in rw e
+pub field-at : (x : Bytes) (a : ℕ) → field (take (a + fieldWidth - a) (drop a x)) ≡ field (take fieldWidth (drop a x))
+field-at x a = let e : a + fieldWidth - a ≡ fieldWidth = omega arith in rw e
 
-next-field : (x : Bytes) (m i : ℕ) → i < m → fields (m - i) (drop (4 * i) x) ≡ consField (field (take 4 (drop (4 * i) x))) (fields (m - (i + 1)) (drop (4 * (i + 1)) x))
+next-field : (x : Bytes) (m i : ℕ) → i < m → fields (m - i) (drop (fieldWidth * i) x) ≡ consField (field (take fieldWidth (drop (fieldWidth * i) x))) (fields (m - (i + 1)) (drop (fieldWidth * (i + 1)) x))
 unfolding fields
 next-field x m i h =
     let e : m - i ≡ suc (m - (i + 1)) = omega arith in
-    let f : 4 * i + 4 ≡ 4 * (i + 1) = omega arith in
+    let f : fieldWidth * i + fieldWidth ≡ fieldWidth * (i + 1) = omega arith in
     rw (e, drop-drop, f)
 
 after-none : (o : Option (List ℕ)) → after [] o ≡ o
@@ -41,7 +42,7 @@ pub counts-none : (x : Bytes) (m : ℕ) → handedOn (fields m x) ≡ after [] (
 counts-none x m = let e : m - 0 ≡ m = omega arith in rw (e, after-none)
 
 -- a field that is no number spoils the line
-pub counts-bad : (p : List ℕ) (x : Bytes) (m i : ℕ) → i < m → field (take 4 (drop (4 * i) x)) ≡ none → after p (handedOn (fields (m - i) (drop (4 * i) x))) ≡ none
+pub counts-bad : (p : List ℕ) (x : Bytes) (m i : ℕ) → i < m → field (take fieldWidth (drop (fieldWidth * i) x)) ≡ none → after p (handedOn (fields (m - i) (drop (fieldWidth * i) x))) ≡ none
 unfolding consField handedOn
 counts-bad p x m i h e = rw (next-field x m i h, e)
 
@@ -51,36 +52,36 @@ handed-cons p v none = refl
 handed-cons p v (some cs) = rw append-assoc
 
 -- a number is stored behind the counts before it, capped
-pub counts-more : (d : List ℕ) (x : Bytes) (m i v r : ℕ) → i < m → i < length d → field (take 4 (drop (4 * i) x)) ≡ some v → r ≡ min v 255 → after (take i d) (handedOn (fields (m - i) (drop (4 * i) x))) ≡ after (take (i + 1) (set d i r)) (handedOn (fields (m - (i + 1)) (drop (4 * (i + 1)) x)))
+pub counts-more : (d : List ℕ) (x : Bytes) (m i v r : ℕ) → i < m → i < length d → field (take fieldWidth (drop (fieldWidth * i) x)) ≡ some v → r ≡ min v 255 → after (take i d) (handedOn (fields (m - i) (drop (fieldWidth * i) x))) ≡ after (take (i + 1) (set d i r)) (handedOn (fields (m - (i + 1)) (drop (fieldWidth * (i + 1)) x)))
 counts-more d x m i v r h k e q =
-    let rest = fields (m - (i + 1)) (drop (4 * (i + 1)) x) in
+    let rest = fields (m - (i + 1)) (drop (fieldWidth * (i + 1)) x) in
     let stored : take (i + 1) (set d i r) ≡ take i d ++ (min v 255 ∷ []) = rw (q, add-one, take-suc-set) in
     rw (next-field x m i h, e, stored) (handed-cons (take i d) v rest)
 
-pub counts-all : (p : List ℕ) (x : Bytes) (m i : ℕ) → m ≤ i → after p (handedOn (fields (m - i) (drop (4 * i) x))) ≡ some p
+pub counts-all : (p : List ℕ) (x : Bytes) (m i : ℕ) → m ≤ i → after p (handedOn (fields (m - i) (drop (fieldWidth * i) x))) ≡ some p
 unfolding fields handedOn
 counts-all p x m i h = let e : m - i ≡ 0 = omega arith in rw e (ap some (append-nil p))
 
 -- what a line must be
-pub line-width : (m : ℕ) (x : Bytes) → (length x ≡ 4 * m + 1 → ⊥) → line m x ≡ none
-unfolding line onlyIf
-line-width m x h = rw (ne-eqb (length x) (4 * m + 1) h)
+pub line-width : (m : ℕ) (x : Bytes) → (length x ≡ lineWidth m → ⊥) → line m x ≡ none
+unfolding line
+line-width m x h = rw (ne-eqb (length x) (lineWidth m) h)
 
-pub line-end : (m : ℕ) (x : Bytes) → (getD x (4 * m) 0 ≡ newline → ⊥) → line m x ≡ none
-unfolding line onlyIf
-line-end m x h = rw (ne-eqb (getD x (4 * m) 0) newline h, and-false)
+pub line-end : (m : ℕ) (x : Bytes) → (getD x (fieldWidth * m) 0 ≡ newline → ⊥) → line m x ≡ none
+unfolding line
+line-end m x h = rw (ne-eqb (getD x (fieldWidth * m) 0) newline h, and-false)
 
-pub line-fields : (m : ℕ) (x : Bytes) → length x ≡ 4 * m + 1 → getD x (4 * m) 0 ≡ newline → line m x ≡ fields m x
-unfolding line onlyIf
-line-fields m x h k = rw (eq-eqb (length x) (4 * m + 1) h, eq-eqb (getD x (4 * m) 0) newline k)
+pub line-fields : (m : ℕ) (x : Bytes) → length x ≡ lineWidth m → getD x (fieldWidth * m) 0 ≡ newline → line m x ≡ fields m x
+unfolding line
+line-fields m x h k = rw (eq-eqb (length x) (lineWidth m) h, eq-eqb (getD x (fieldWidth * m) 0) newline k)
 
 -- no second line, and a second line
 pub line-absent : (m : ℕ) (x : Bytes) → m ≡ 0 → length x ≡ 0 → secondLine m x ≡ some []
-unfolding secondLine onlyIf
+unfolding secondLine
 line-absent m x e h = rw (e, eq-eqb (length x) 0 h)
 
 pub line-unasked : (m : ℕ) (x : Bytes) → m ≡ 0 → (length x ≡ 0 → ⊥) → secondLine m x ≡ none
-unfolding secondLine onlyIf
+unfolding secondLine
 line-unasked m x e h = rw (e, ne-eqb (length x) 0 h)
 
 pub line-present : (m : ℕ) (x : Bytes) → (m ≡ 0 → ⊥) → secondLine m x ≡ line m x
@@ -89,7 +90,8 @@ line-present zero x h = absurd (h refl)
 line-present (suc m) x h = refl
 
 -- the second line's way to the slip
-pub by-line : (f : Family) (x : Bytes) {m k : ℕ} {o : Option (List ℕ)} {r : Option Slip} → m ≡ k → secondLine m x ≡ o → withCounts f (handedOn o) ≡ r → withCounts f (handedOn (secondLine k x)) ≡ r
+pub by-line : (f : Family) (x : Bytes) {m : ℕ} {o : Option (List ℕ)} {r : Option Slip} → m ≡ countsOn f → secondLine m x ≡ o → withCounts f (handedOn o) ≡ r → slipWith f x ≡ r
+unfolding slipWith
 by-line f x e p q = rw (← e, p) q
 
 -- how many counts a slip has

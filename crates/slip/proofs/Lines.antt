@@ -1,7 +1,8 @@
 -- The lines of a listing, one more at a time, to END or MORE, for any number of lines at most.
 -- Assumes nothing.
-use mathlib.Core.Path.{_≡_, subst}
+use mathlib.Core.Path.{_≡_, sym, ap, subst}
 use mathlib.Core.Option.{Option·some-injective, Option·none-ne-some}
+use mathlib.Core.Bool.{cond}
 use mathlib.Core.List.{List, [], _∷_, _++_, flatMap, append-assoc, append-nil}
 use Prim.Native.Nat.{ℕ, zero, suc, _+_, _≤_, _<_}
 use native.Mathlib.Nat.{zero-add, add-zero}
@@ -13,10 +14,14 @@ use lib.Seq.{take-all}
 use borrow.Author.Tests.{lt-ltb, le-ltb}
 use Rattle.listings.specs.Bytes.{Bytes}
 use Rattle.listings.specs.Places.{At}
+use Rattle.listings.specs.Calls.{COUNT, Answer, Said}
 use Rattle.families.specs.declared.Family.{Family}
-use Rattle.columns.specs.Columns.{newline, justified}
-use Rattle.slip.specs.Text.{wordEnd, wordMore, listedAtMost, firstLine, objectLine, objectLines, ending, body}
-use Rattle.slip.specs.Writing.{familyColumns, lastLine}
+use Rattle.families.specs.Table.{Lent}
+use Rattle.families.specs.Families.{listing}
+use Rattle.families.specs.Calls.{respond}
+use Rattle.columns.specs.Columns.{newline}
+use Rattle.slip.specs.Sizes.{listedAtMost}
+use Rattle.slip.specs.Text.{wordEnd, wordMore, familyColumns, firstLine, objectLine, objectLines, lastLine, body, listedText, said, familyText}
 use Rattle.columns.specs.Writing.{Wrote}
 use Rattle.columns.proofs.Writes.{then}
 
@@ -44,26 +49,31 @@ line-written l r v h w = rw (add-one, lines-snoc 0 l r h, zero-add) (then v w)
 
 -- the body with another number of lines at most
 abbrev pub upTo : ℕ → List Bytes → Bytes
-upTo m l = objectLines 0 (take m l) ++ (justified 20 (ending (ltb m (length l))) ++ (newline ∷ []))
+upTo m l = objectLines 0 (take m l) ++ lastLine (cond (ltb m (length l)) wordMore wordEnd)
 
 -- END behind the last line
 pub ended : (l : List Bytes) (r : ℕ) {d e g : Bytes} {at end till : ℕ} → Wrote d at e end (objectLines 0 (take r l)) → r ≡ length l → r ≤ listedAtMost → Wrote e end g till (lastLine wordEnd) → Wrote d at g till (body l)
-unfolding body ending lastLine
+unfolding body
 ended l r v e h w =
     rw (take-all listedAtMost l (omega arith), le-ltb listedAtMost (length l) (omega arith), ← take-all r l (omega arith)) (then v w)
 
 -- MORE behind as many lines as are listed at most
 pub cut : (l : List Bytes) (r : ℕ) {d e g : Bytes} {at end till : ℕ} → Wrote d at e end (objectLines 0 (take r l)) → r < length l → r ≡ listedAtMost → Wrote e end g till (lastLine wordMore) → Wrote d at g till (body l)
-unfolding body ending lastLine
+unfolding body
 cut l r {d} {g = g} {at} {till = till} v h e w =
     subst (λ (m : ℕ). Wrote d at g till (upTo m l)) e (rw (lt-ltb r (length l) h) (then v w))
 
 -- END alone
 pub nothing-listed : (l : List Bytes) {d g : Bytes} {at till : ℕ} → l ≡ [] → Wrote d at g till (lastLine wordEnd) → Wrote d at g till (body l)
-unfolding body ending lastLine objectLines
+unfolding body objectLines
 nothing-listed l e w = rw e w
 
 -- the first line, and what stands behind it
-pub headed : (f : Family) {count s d e g p q : Bytes} {a b c i j : ℕ} → Wrote d a e b (familyColumns f) → Wrote e b g c count → Wrote g c p i (newline ∷ []) → Wrote p i q j s → Wrote d a q j (firstLine f count ++ s)
-unfolding firstLine familyColumns
-headed f u v w y = simp append-assoc (simp append-assoc at (then (then (then u v) w) y))
+pub headed : (f : Family) (b : Lent) {count d e g p q : Bytes} {at c i j k : ℕ} → Wrote d at e c (familyColumns f) → Wrote e c g i count → Wrote g i p j (newline ∷ []) → Wrote p j q k (body (listing f b)) → Wrote d at q k (listedText count f b)
+unfolding listedText firstLine
+headed f b u v w y = simp append-assoc (simp append-assoc at (then (then (then u v) w) y))
+
+-- the text of a family by what COUNT answers
+pub text-is : (f : Family) (b : Lent) {a : Answer} → _≡_ {A = Said} (a, []) (respond COUNT f b []) → familyText f b ≡ said a f b
+unfolding familyText
+text-is f b e = ap (λ (s : Said). said (s .0) f b) (sym e)

@@ -1,88 +1,93 @@
 -- No text is longer than the buffer that `render` asks for; and a text written there is what `render` promises.
 -- Assumes nothing.
 use mathlib.Core.Path.{_≡_, refl, sym, _∙_, ap}
-use mathlib.Core.Bool.{Bool, true, false}
+use mathlib.Core.Bool.{Bool, true, false, cond}
 use mathlib.Core.Option.{Option, none, some}
-use mathlib.Core.List.{List, [], _∷_, _++_, flatMap, List·Memᴰ, List·Memᴰ·head, List·Memᴰ·tail}
+use mathlib.Core.List.{List, [], _∷_, flatMap, List·Memᴰ, List·Memᴰ·head, List·Memᴰ·tail}
 use Prim.Native.Nat.{ℕ, zero, suc, _+_, _*_, _≤_}
 use native.Mathlib.Omega.{arith}
 use lib.Dec.{ltb, eqb}
 use lib.ListN.{length, take, length-append, length-take}
+use Rattle.numbers.specs.Limits.{longestObject}
 use Rattle.listings.specs.Bytes.{Bytes}
-use Rattle.listings.specs.Calls.{COUNT, Answer, REFUSED, COUNTED, RANKED, WRITTEN, STEPPED, END}
+use Rattle.listings.specs.Calls.{COUNT, Answer, REFUSED, COUNTED, RANKED, MEASURED, WRITTEN, STEPPED, END}
 use Rattle.families.specs.declared.Family.{Family}
-use Rattle.families.specs.Table.{Lent, lent}
-use Rattle.families.specs.Listing.{listing}
+use Rattle.families.specs.Table.{Lent}
+use Rattle.families.specs.Families.{listing}
 use Rattle.families.specs.Calls.{respond}
-use Rattle.families.proofs.Listings.{listed, lawful}
-use Rattle.families.proofs.Dispatch.{object-allowed}
+use Rattle.families.proofs.FamilyFacts.{listed, lawful, object-allowed, short}
 use Rattle.slip.specs.declared.Rendered.{Rendered}
 use Rattle.slip.specs.declared.Rendered.the-variants.{Text}
 use Rattle.columns.specs.Columns.{column, justified}
+use Rattle.columns.specs.Fields.{fieldWidth}
 use Rattle.slip.specs.Grammar.{Slip, slipOf}
-use Rattle.slip.specs.Text.{wordMany, listedAtMost, firstLine, objectLine, objectLines, ending, body, refusedText, manyOr, said, familyText, textOf, output}
+use Rattle.slip.specs.Sizes.{countWidth, familyWidth, objectLineWidth, lastLineWidth, refusedWidth, listedAtMost, longestBody, largest}
+use Rattle.slip.specs.Text.{wordEnd, wordMore, wordMany, familyColumns, firstLine, objectLine, objectLines, lastLine, body, listedText, refusedText, said, familyText, lentBy, textOf, output}
 use Rattle.columns.specs.Writing.{Wrote}
-use Rattle.slip.specs.Rendering.{largest, Renders}
+use Rattle.slip.specs.Rendering.{Renders}
 use Rattle.columns.proofs.ColumnLaws.{length-column}
 use Rattle.slip.proofs.Lines.{upTo}
-use Rattle.slip.proofs.Listed.{length-small}
 
-bytes-long : (x : Bytes) → length (flatMap (column 4) x) ≡ 4 * length x
+bytes-long : (x : Bytes) → length (flatMap (column fieldWidth) x) ≡ fieldWidth * length x
 unfolding flatMap
 bytes-long [] = refl
-bytes-long (b ∷ x) = rw (length-append, length-column 4 b, bytes-long x) (omega arith)
+bytes-long (b ∷ x) = rw (length-append, length-column fieldWidth b, bytes-long x) (omega arith)
 
-line-long : (r : ℕ) (x : Bytes) → length (objectLine r x) ≡ 21 + 4 * length x
+line-long : (r : ℕ) (x : Bytes) → length (objectLine r x) ≡ objectLineWidth (length x)
 unfolding objectLine
-line-long r x = rw (length-append, length-append, length-column 20 r, bytes-long x) (omega arith)
+line-long r x = rw (length-append, length-append, length-column countWidth r, bytes-long x) (omega arith)
 
--- a rank, 80 bytes and a newline are 341 bytes
-lines-long : (s m : ℕ) (l : List Bytes) → ((x : Bytes) → List·Memᴰ x l → length x ≤ 80) → length (objectLines s (take m l)) ≤ 341 * m
+lines-long : (s m : ℕ) (l : List Bytes) → ((x : Bytes) → List·Memᴰ x l → length x ≤ longestObject) → length (objectLines s (take m l)) ≤ objectLineWidth longestObject * m
 unfolding objectLines
 lines-long s zero l h = omega arith
 lines-long s (suc m) [] h = omega arith
 lines-long s (suc m) (x ∷ l) h =
     rw (length-append, line-long s x) (omega (arith, h x (List·Memᴰ·head refl), lines-long (suc s) m l (λ y k. h y (List·Memᴰ·tail k))))
 
-last-long : (b : Bool) → length (justified 20 (ending b)) ≡ 20
-unfolding justified ending
+last-long : (more : Bool) → length (lastLine (cond more wordMore wordEnd)) ≡ lastLineWidth
+unfolding lastLine justified
 last-long true = refl
 last-long false = refl
 
-up-to-long : (m : ℕ) (l : List Bytes) → ((x : Bytes) → List·Memᴰ x l → length x ≤ 80) → length (upTo m l) ≤ 341 * m + 21
-up-to-long m l h = rw (length-append, length-append, last-long (ltb m (length l))) (omega (arith, lines-long 0 m l h))
+up-to-long : (m : ℕ) (l : List Bytes) → ((x : Bytes) → List·Memᴰ x l → length x ≤ longestObject) → length (upTo m l) ≤ objectLineWidth longestObject * m + lastLineWidth
+up-to-long m l h = rw (length-append, last-long (ltb m (length l))) (omega (arith, lines-long 0 m l h))
 
-short-objects : (f : Family) (b : Lent) (x : Bytes) → List·Memᴰ x (listing f b) → length x ≤ 80
+short-objects : (f : Family) (b : Lent) (x : Bytes) → List·Memᴰ x (listing f b) → length x ≤ longestObject
 short-objects f b x k =
     let o = listed f b .only x k in
-    omega (arith, lawful f b .long x o, length-small f b (object-allowed f b x o))
+    omega (arith, lawful f b .long x o, short f b (object-allowed f b x o))
 
-body-long : (f : Family) (b : Lent) → length (body (listing f b)) ≤ 341021
+body-long : (f : Family) (b : Lent) → length (body (listing f b)) ≤ longestBody
 unfolding body
 body-long f b = up-to-long listedAtMost (listing f b) (short-objects f b)
 
-first-long : (f : Family) (count : Bytes) → length (firstLine f count) ≡ 13 + length count
+family-long : (f : Family) → length (familyColumns f) ≡ familyWidth
+unfolding familyColumns
+family-long f = simp (length-append, length-column fieldWidth (f .kind), length-column fieldWidth (f .n), length-column fieldWidth (f .k))
+
+first-long : (f : Family) (count : Bytes) → length (firstLine f count) ≡ familyWidth + (length count + 1)
 unfolding firstLine
-first-long f count =
-    rw (length-append, length-append, length-append, length-append, length-column 4 (f .kind), length-column 4 (f .n), length-column 4 (f .k)) (omega arith)
+first-long f count = simp (length-append, family-long f)
 
-refused-long : (q : ℕ) → length (refusedText q) ≡ 12
+refused-long : (q : ℕ) → length (refusedText q) ≡ refusedWidth
 unfolding refusedText
-refused-long q = simp (length-append, length-column 4 q)
+refused-long q = simp (length-append, length-column fieldWidth q)
 
-headed-long : (f : Family) (b : Lent) (count : Bytes) → length count ≡ 20 → length (firstLine f count ++ body (listing f b)) ≤ largest
-headed-long f b count e = rw (length-append, first-long f count) (omega (arith, body-long f b))
+listed-long : (count : Bytes) (f : Family) (b : Lent) → length count ≡ countWidth → length (listedText count f b) ≤ largest
+unfolding listedText
+listed-long count f b e = rw (length-append, first-long f count) (omega (arith, body-long f b))
 
-many-long : (t : Bool) (f : Family) (b : Lent) (q : ℕ) → length (manyOr t f (listing f b) q) ≤ largest
-unfolding manyOr justified
-many-long true f b q = headed-long f b (justified 20 wordMany) refl
-many-long false f b q = omega (arith, refused-long q)
+uncounted-long : (many : Bool) (f : Family) (b : Lent) (q : ℕ) → length (cond many (listedText (justified countWidth wordMany) f b) (refusedText q)) ≤ largest
+unfolding justified
+uncounted-long true f b q = listed-long (justified countWidth wordMany) f b refl
+uncounted-long false f b q = omega (arith, refused-long q)
 
-said-long : (a : Answer) (f : Family) (b : Lent) → length (said a f (listing f b)) ≤ largest
+said-long : (a : Answer) (f : Family) (b : Lent) → length (said a f b) ≤ largest
 unfolding said
-said-long (COUNTED n) f b = headed-long f b (column 20 n) (length-column 20 n)
-said-long (REFUSED q) f b = many-long (eqb q 5) f b q
+said-long (COUNTED n) f b = listed-long (column countWidth n) f b (length-column countWidth n)
+said-long (REFUSED q) f b = uncounted-long (eqb q 5) f b q
 said-long (RANKED n) f b = omega arith
+said-long (MEASURED n) f b = omega arith
 said-long WRITTEN f b = omega arith
 said-long STEPPED f b = omega arith
 said-long END f b = omega arith
@@ -90,7 +95,7 @@ said-long END f b = omega arith
 text-long : (s : Option Slip) → length (textOf s) ≤ largest
 unfolding textOf familyText
 text-long none = omega (arith, refused-long 9)
-text-long (some s) = said-long (respond COUNT (s .family) (lent (s .counts)) [] .0) (s .family) (lent (s .counts))
+text-long (some s) = said-long (respond COUNT (s .family) (lentBy s) [] .0) (s .family) (lentBy s)
 
 -- the constant is right: it serves every slip
 pub output-fits : (x : Bytes) → length (output x) ≤ largest

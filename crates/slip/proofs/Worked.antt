@@ -5,14 +5,14 @@ use mathlib.Core.List.{[], _∷_, _++_, flatMap}
 use Rattle.listings.specs.Bytes.{Bytes}
 use Rattle.listings.specs.Calls.{orElse, firstNo, judged, act}
 use Rattle.subsets.specs.Listing.{subsets}
-use Rattle.families.specs.Table.{kindOf, isKind, bounds, inTable, countsFit, listsFit, allowed}
-use Rattle.families.specs.Listing.{listingOf, ifAllowed, listing, countOf}
-use Rattle.families.specs.Questions.{asked, isIn, put, opening, closing, refusal}
+use Rattle.families.specs.Table.{noCounts, subsetRow, table}
+use Rattle.families.specs.Families.{row, isKind, inTable, listsFit, askedOfAll, allYes, allowed, listing, countOf}
+use Rattle.families.specs.Questions.{asked, isIn, put, opening, closingFor, refusal}
 use Rattle.families.specs.Calls.{respond}
-use Rattle.columns.specs.Columns.{front, column, justified}
-use Rattle.slip.specs.Grammar.{consField, fields, line, secondLine, countsOn, handedOn, withCounts, slipWith, slipFrom, slipOf}
-use Rattle.columns.specs.Fields.{onlyIf, digits, choose3, field}
-use Rattle.slip.specs.Text.{firstLine, objectLine, objectLines, ending, body, said, familyText, textOf, output}
+use Rattle.columns.specs.Columns.{column, justified}
+use Rattle.columns.specs.Fields.{digits, field}
+use Rattle.slip.specs.Grammar.{consField, fields, line, familyOf, countsOn, secondLine, handedOn, withCounts, slipWith, slipFrom, slipOf}
+use Rattle.slip.specs.Text.{familyColumns, firstLine, objectLine, objectLines, lastLine, body, listedText, said, familyText, textOf, output}
 
 -- the slip `   1   4   2` and its newline
 abbrev pub workedSlip : Bytes
@@ -31,5 +31,5 @@ workedText =
     ++ ((32 ∷ 32 ∷ 32 ∷ 32 ∷ 32 ∷ 32 ∷ 32 ∷ 32 ∷ 32 ∷ 32 ∷ 32 ∷ 32 ∷ 32 ∷ 32 ∷ 32 ∷ 32 ∷ 32 ∷ 69 ∷ 78 ∷ 68 ∷ 10 ∷ []))))))))
 
 pub worked : output workedSlip ≡ workedText
-unfolding respond refusal opening closing act firstNo put asked isIn orElse judged isKind inTable bounds kindOf listsFit countsFit allowed listing ifAllowed listingOf countOf flatMap subsets front column justified onlyIf digits choose3 field consField fields line secondLine countsOn handedOn withCounts slipWith slipFrom slipOf firstLine objectLine objectLines ending body said familyText textOf output
+unfolding respond refusal opening closingFor act firstNo put asked isIn orElse judged isKind inTable listsFit askedOfAll allYes allowed row table subsetRow noCounts listing countOf flatMap subsets column justified digits field consField fields line familyOf countsOn secondLine handedOn withCounts slipWith slipFrom slipOf familyColumns firstLine objectLine objectLines lastLine body listedText said familyText textOf output
 worked = refl

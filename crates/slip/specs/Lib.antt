@@ -1,7 +1,7 @@
 -- What a reader must believe of the program's text: the slip's grammar and everything that is printed, in the columns of `columns`.
--- Writing and Reading serve the contracts of private functions only.
+-- Reading serves the contracts of private functions only.
+pub mod Sizes
 pub mod Grammar
 pub mod Text
-pub mod Writing
 pub mod Reading
 pub mod Rendering

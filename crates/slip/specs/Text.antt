@@ -1,19 +1,21 @@
 -- Everything that the program prints.
 -- Assumes nothing.
-use mathlib.Core.Bool.{Bool, true, false}
+use mathlib.Core.Bool.{cond}
 use mathlib.Core.Option.{Option, none, some}
 use mathlib.Core.List.{List, [], _∷_, _++_, flatMap}
 use Prim.Native.Nat.{ℕ, suc}
 use lib.Dec.{ltb, eqb}
 use lib.ListN.{length, take}
 use Rattle.listings.specs.Bytes.{Bytes}
-use Rattle.listings.specs.Calls.{COUNT, Answer, REFUSED, COUNTED, RANKED, WRITTEN, STEPPED, END}
+use Rattle.listings.specs.Calls.{COUNT, Answer, REFUSED, COUNTED, RANKED, MEASURED, WRITTEN, STEPPED, END}
 use Rattle.families.specs.declared.Family.{Family}
-use Rattle.families.specs.Table.{lent}
-use Rattle.families.specs.Listing.{listing}
+use Rattle.families.specs.Table.{Lent, onlyCounts}
+use Rattle.families.specs.Families.{listing}
 use Rattle.families.specs.Calls.{respond}
 use Rattle.columns.specs.Columns.{newline, column, justified}
+use Rattle.columns.specs.Fields.{fieldWidth}
 use Rattle.slip.specs.Grammar.{Slip, slipOf}
+use Rattle.slip.specs.Sizes.{countWidth, listedAtMost}
 
 -- the words of the output, in ASCII
 abbrev pub wordEnd : Bytes
@@ -28,54 +30,60 @@ wordMany = 77 ∷ 65 ∷ 78 ∷ 89 ∷ []
 abbrev pub wordRefused : Bytes
 wordRefused = 82 ∷ 69 ∷ 70 ∷ 85 ∷ 83 ∷ 69 ∷ 68 ∷ []
 
--- "1,000 are listed"
-abbrev pub listedAtMost : ℕ
-listedAtMost = 1000
+-- "kind, n, k in 4 columns each"
+unfoldable pub familyColumns : Family → Bytes
+familyColumns f = column fieldWidth (f .kind) ++ (column fieldWidth (f .n) ++ column fieldWidth (f .k))
 
 -- "It prints kind, n, k in 4 columns each and the count in 20"
 unfoldable pub firstLine : Family → Bytes → Bytes
-firstLine f count = column 4 (f .kind) ++ (column 4 (f .n) ++ (column 4 (f .k) ++ (count ++ (newline ∷ []))))
+firstLine f count = familyColumns f ++ (count ++ (newline ∷ []))
 
 -- "a line an object: rank in 20 columns, each byte in 4"
 unfoldable pub objectLine : ℕ → Bytes → Bytes
-objectLine r x = column 20 r ++ (flatMap (column 4) x ++ (newline ∷ []))
+objectLine r x = column countWidth r ++ (flatMap (column fieldWidth) x ++ (newline ∷ []))
 
 unfoldable pub objectLines : ℕ → List Bytes → Bytes
 objectLines r [] = []
 objectLines r (x ∷ l) = objectLine r x ++ objectLines (suc r) l
 
-unfoldable pub ending : Bool → Bytes
-ending true = wordMore
-ending false = wordEnd
+-- "the line END, right-justified in 20 columns", with its word
+unfoldable pub lastLine : Bytes → Bytes
+lastLine word = justified countWidth word ++ (newline ∷ [])
 
 -- "After the last comes the line END .. If more than 1,000 objects exist, 1,000 are listed and MORE stands for END"
 unfoldable pub body : List Bytes → Bytes
-body l = objectLines 0 (take listedAtMost l) ++ (justified 20 (ending (ltb listedAtMost (length l))) ++ (newline ∷ []))
+body l = objectLines 0 (take listedAtMost l) ++ lastLine (cond (ltb listedAtMost (length l)) wordMore wordEnd)
+
+-- the first line and the objects
+unfoldable pub listedText : Bytes → Family → Lent → Bytes
+listedText count f b = firstLine f count ++ body (listing f b)
 
 -- "Any other refusal prints only REFUSED and the number in 4 columns"
 unfoldable pub refusedText : ℕ → Bytes
-refusedText q = wordRefused ++ (column 4 q ++ (newline ∷ []))
+refusedText q = wordRefused ++ (column fieldWidth q ++ (newline ∷ []))
 
-unfoldable pub manyOr : Bool → Family → List Bytes → ℕ → Bytes
-manyOr true f l q = firstLine f (justified 20 wordMany) ++ body l
-manyOr false f l q = refusedText q
+-- by what COUNT answers: the count, "the word MANY, right-justified, if refused by 5", or another refusal
+unfoldable pub said : Answer → Family → Lent → Bytes
+said (COUNTED n) f b = listedText (column countWidth n) f b
+said (REFUSED q) f b = cond (eqb q 5) (listedText (justified countWidth wordMany) f b) (refusedText q)
+said (RANKED n) f b = []
+said (MEASURED n) f b = []
+said WRITTEN f b = []
+said STEPPED f b = []
+said END f b = []
 
--- by what COUNT answers: the count, "the word MANY .. if refused by 5", or another refusal
-unfoldable pub said : Answer → Family → List Bytes → Bytes
-said (COUNTED n) f l = firstLine f (column 20 n) ++ body l
-said (REFUSED q) f l = manyOr (eqb q 5) f l q
-said (RANKED n) f l = []
-said WRITTEN f l = []
-said STEPPED f l = []
-said END f l = []
+-- the text of a family and what is lent beside it
+unfoldable pub familyText : Family → Lent → Bytes
+familyText f b = said (respond COUNT f b [] .0) f b
 
-unfoldable pub familyText : Family → List ℕ → Bytes
-familyText f cs = said (respond COUNT f (lent cs) [] .0) f (listing f (lent cs))
+-- what a slip lends beside its family
+abbrev pub lentBy : Slip → Lent
+lentBy s = onlyCounts (s .counts)
 
 -- "Number 9 is the program's: it asks before all of these whether the slip below is well formed"
 unfoldable pub textOf : Option Slip → Bytes
 textOf none = refusedText 9
-textOf (some s) = familyText (s .family) (s .counts)
+textOf (some s) = familyText (s .family) (lentBy s)
 
 -- what the program prints for its input
 unfoldable pub output : Bytes → Bytes

@@ -1,18 +1,33 @@
 // The slip as a whole: the first line, and for kind 2 the counts of the second.
+use crate::limits::FAMILY_WIDTH;
+use crate::limits::FIELD_WIDTH;
+use crate::limits::SECOND_LINE;
 use columns::fields::Value;
 use columns::fields::field;
 use families::Family;
 ghost use mathlib.Core.Path.{_≡_};
-ghost use Prim.Native.Nat.{_*_, _≤_, min};
-ghost use lib.Dec.{eqb};
-ghost use lib.ListN.{length};
-ghost use Rattle.slip.specs.Grammar.{fields, secondLine, countsOn, handedOn, withCounts, slipOf};
+ghost use Prim.Native.Nat.{_+_, _*_, _≤_, min};
+ghost use lib.ListN.{length, take, drop};
+ghost use Rattle.columns.specs.Fields.{fieldWidth, field as fieldOf};
+ghost use Rattle.columns.specs.Writing.{valueAs};
+ghost use Rattle.slip.specs.Grammar.{fields, countsOn, handedOn, slipWith, slipOf};
 ghost use Rattle.slip.specs.Reading.{countsAs, parsedAs, AtMost};
+ghost use Rattle.slip.specs.Sizes.{mostCounts};
 
 // A well-formed slip: its family, and how many counts stand in the buffer; or a malformed one.
 pub enum Parsed {
     Slip(Family, usize),
     Malformed,
+}
+
+// Field i of a line, counted from 0.
+fn number_at(line: &[u8], i: usize) -> Value
+    requires { ⌜ fieldWidth * (i + 1) ≤ length (now line) ⌝ }
+    ensures { λ r. ⌜ valueAs r ≡ fieldOf (take fieldWidth (drop (fieldWidth * i) (now (line .entry)))) ⌝ }
+{
+    let at = FIELD_WIDTH * i;
+    let end = at + FIELD_WIDTH;
+    field(&line[at..end])
 }
 
 // A count as it is handed on.
@@ -27,14 +42,12 @@ fn at_most_255(v: u64) -> u8
 
 // The counts of a line of counts.len() fields. Is every field a number?
 fn read_counts(line: &[u8], counts: &mut [u8]) -> bool
-    requires { ⌜ 4 * length (now counts) ≤ length (now line) ⌝ }
+    requires { ⌜ fieldWidth * length (now counts) ≤ length (now line) ⌝ }
     ensures { λ r. ⌜ handedOn (fields (length (now (counts .entry))) (now (line .entry))) ≡ countsAs r (now (counts .exit)) ⌝ }
 {
     let mut i = 0;
     while i < counts.len() {
-        let at = 4 * i;
-        let end = at + 4;
-        let Value::Number(v) = field(&line[at..end]) else {
+        let Value::Number(v) = number_at(line, i) else {
             return false;
         };
         counts[i] = at_most_255(v);
@@ -46,7 +59,7 @@ fn read_counts(line: &[u8], counts: &mut [u8]) -> bool
 // How many counts the second line has.
 fn how_many(f: Family) -> usize
     ensures { λ r. ⌜ r ≤ f .n ⌝ }
-    ensures { λ r. ⌜ r ≡ countsOn (eqb (f .kind) 2) (f .n) ⌝ }
+    ensures { λ r. ⌜ r ≡ countsOn f ⌝ }
 {
     if f.kind == 2 {
         return f.n as usize;
@@ -56,10 +69,10 @@ fn how_many(f: Family) -> usize
 
 // The second line, behind the first: counts for kind 2, and nothing for other kinds.
 fn second_line(rest: &[u8], f: Family, counts: &mut [u8]) -> Parsed
-    requires { ⌜ f .n ≤ 9999 ⌝ }
-    requires { ⌜ 9999 ≤ length (now counts) ⌝ }
-    ensures { λ r. ⌜ AtMost r 9999 ⌝ }
-    ensures { λ r. ⌜ withCounts f (handedOn (secondLine (countsOn (eqb (f .kind) 2) (f .n)) (now (rest .entry)))) ≡ parsedAs r (now (counts .exit)) ⌝ }
+    requires { ⌜ f .n ≤ mostCounts ⌝ }
+    requires { ⌜ mostCounts ≤ length (now counts) ⌝ }
+    ensures { λ r. ⌜ AtMost r mostCounts ⌝ }
+    ensures { λ r. ⌜ slipWith f (now (rest .entry)) ≡ parsedAs r (now (counts .exit)) ⌝ }
 {
     let m = how_many(f);
     if m == 0 {
@@ -68,7 +81,7 @@ fn second_line(rest: &[u8], f: Family, counts: &mut [u8]) -> Parsed
         }
         return Parsed::Malformed;
     }
-    let end = 4 * m;
+    let end = FIELD_WIDTH * m;
     if rest.len() != end + 1 {
         return Parsed::Malformed;
     }
@@ -81,26 +94,27 @@ fn second_line(rest: &[u8], f: Family, counts: &mut [u8]) -> Parsed
     Parsed::Malformed
 }
 
-// Reads a slip; the counts go to a buffer of at least 9,999 bytes.
+// Reads a slip, with its counts into a buffer that has room for the longest second line.
 pub fn parse(input: &[u8], counts: &mut [u8]) -> Parsed
-    requires { ⌜ 9999 ≤ length (now counts) ⌝ }
-    ensures { λ r. ⌜ AtMost r 9999 ⌝ }
+    requires { ⌜ mostCounts ≤ length (now counts) ⌝ }
+    ensures { λ r. ⌜ AtMost r mostCounts ⌝ }
     ensures { λ r. ⌜ slipOf (now (input .entry)) ≡ parsedAs r (now (counts .exit)) ⌝ }
 {
-    if input.len() < 13 {
+    if input.len() < SECOND_LINE {
         return Parsed::Malformed;
     }
-    if input[12] != b'\n' {
+    if input[FAMILY_WIDTH] != b'\n' {
         return Parsed::Malformed;
     }
-    let Value::Number(kind) = field(&input[0..4]) else {
+    let Value::Number(kind) = number_at(input, 0) else {
         return Parsed::Malformed;
     };
-    let Value::Number(n) = field(&input[4..8]) else {
+    let Value::Number(n) = number_at(input, 1) else {
         return Parsed::Malformed;
     };
-    let Value::Number(k) = field(&input[8..12]) else {
+    let Value::Number(k) = number_at(input, 2) else {
         return Parsed::Malformed;
     };
-    second_line(&input[13..], Family { kind, n, k }, counts)
+    let f = families::plain_family(kind, n, k);
+    second_line(&input[SECOND_LINE..], f, counts)
 }

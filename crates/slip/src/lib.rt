@@ -2,11 +2,17 @@
 ghost use mathlib.Core.Path.{_≡_};
 ghost use lib.ListN.{length};
 ghost use Rattle.slip.specs.Rendering.{Renders};
+ghost use Rattle.slip.specs.Sizes.{mostCounts};
 
 mod grammar;
+mod limits;
 mod listing;
 
+use families::only_counts;
 use grammar::Parsed;
+pub use limits::LARGEST;
+pub use limits::LONGEST_SLIP;
+use limits::MOST_COUNTS;
 
 // The text is so many bytes at the start of the buffer; or the buffer is shorter than the longest text, and nothing is promised of it.
 pub enum Rendered {
@@ -14,14 +20,11 @@ pub enum Rendered {
     Short,
 }
 
-// The length that serves every slip: a first line, 1,000 lines of 80 places, and the last.
-const LARGEST: usize = 342000;
-
-// Room for the counts of a slip, of which there are at most 9,999.
-fn no_counts() -> [u8; 9999]
-    ensures { λ r. ⌜ 9999 ≡ length r ⌝ }
+// Room for the counts of a slip.
+fn no_counts() -> [u8; MOST_COUNTS]
+    ensures { λ r. ⌜ mostCounts ≡ length r ⌝ }
 {
-    [0u8; 9999]
+    [0u8; MOST_COUNTS]
 }
 
 // Writes everything that the program prints for an input.
@@ -35,5 +38,6 @@ pub fn render(input: &[u8], out: &mut [u8]) -> Rendered
     let Parsed::Slip(f, m) = grammar::parse(input, &mut counts) else {
         return Rendered::Text(listing::put_refused(out, 0, 9));
     };
-    Rendered::Text(listing::put_text(out, f, &counts[..m]))
+    let lists = only_counts(&counts[..m]);
+    Rendered::Text(listing::put_text(out, f, lists))
 }

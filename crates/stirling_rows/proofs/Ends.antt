@@ -6,6 +6,7 @@ use native.Mathlib.Nat.{mul-le-mul, mul-suc, suc-mul, mul-one}
 use native.Mathlib.Omega.{arith}
 use Rattle.numbers.specs.Numbers.{stirlingOf}
 use Rattle.numbers.proofs.Stirlings.{stirling-rule, stirling-all, stirling-zero, stirling-one}
+use Rattle.stirling_rows.specs.Stored.{lastRow}
 
 pub short : (n k : ℕ) → k < 2 → k < n → k ≡ stirlingOf n k
 short n zero few fewer = sym (stirling-zero n (omega arith))
@@ -28,12 +29,12 @@ all-but-one (suc n) h =
 
 -- nothing on the way is large
 
-pub few-pairs : (n : ℕ) → n ≤ 26 → n * (n - 1) ≤ 26 * 25
+pub few-pairs : (n : ℕ) → n ≤ lastRow → n * (n - 1) ≤ 26 * 25
 few-pairs n h =
     let a : n - 1 ≤ 25 = omega arith in
     mul-le-mul h a
 
-pub few-places : (n : ℕ) → n ≤ 26 → (n - 2) * (n - 3) ≤ 24 * 23
+pub few-places : (n : ℕ) → n ≤ lastRow → (n - 2) * (n - 3) ≤ 24 * 23
 few-places n h =
     let a : n - 2 ≤ 24 = omega arith in
     let b : n - 3 ≤ 23 = omega arith in

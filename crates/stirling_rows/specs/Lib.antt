@@ -1,2 +1,3 @@
 -- The numbers that the small Stirling numbers are read from.
+pub mod Stored
 pub mod Inner

@@ -1,5 +1,5 @@
--- Where on each row of the band the numbers reach 2^64, and that a band whose last number is below has at most 525 numbers: tested once over the
--- triangle to row 80. Assumes nothing.
+-- Where on each row of the band the numbers reach 2^64, and that a band whose last number is below has no more numbers than its room: tested once
+-- over the triangle to the last row. Assumes nothing.
 use mathlib.Core.Path.{_≡_, refl, sym, _∙_, ap}
 use mathlib.Core.Logic.{_⊎_, inl, inr}
 use mathlib.Core.Bool.{Bool, true, false, _&&_, not, and-eq-true-iff, false≢true}
@@ -10,21 +10,23 @@ use native.Mathlib.Omega.{arith}
 use lib.Dec.{leb, ltb, eqb}
 use lib.ListN.{getD}
 use borrow.Author.Tests.{eqb-true, leb-true, lt-ltb}
+use Rattle.numbers.specs.Limits.{places}
 use Rattle.numbers.specs.Numbers.{stirlingOf}
 use Rattle.numbers.specs.Sums.{range}
 use Rattle.numbers.proofs.Stirlings.{stirling-weighted}
 use Rattle.numbers.proofs.Triangles.{row}
 use Rattle.numbers.proofs.Weighted.{step}
+use Rattle.stirling_rows.specs.Stored.{lastRow}
 use Rattle.stirlings.specs.Band.{capacity, LastColumn}
 use Rattle.numbers.proofs.WeightedTests.{holds, tests, every}
 
 -- row by row, the last column whose number is below 2^64
 abbrev pub limits : List ℕ
 limits =
-    80 ∷ 80 ∷ 80 ∷ 80 ∷ 80 ∷ 80 ∷ 80 ∷ 59 ∷ 41 ∷ 30 ∷ 24 ∷ 19 ∷ 16 ∷ 14 ∷ 12 ∷ 11 ∷ 10 ∷ 9 ∷ 8 ∷ 7 ∷ 7 ∷ 6 ∷ 6 ∷ 5 ∷ 5 ∷ 5 ∷ 4 ∷ 4 ∷ 4 ∷ 4 ∷ 4 ∷ 3 ∷ 3 ∷ 3 ∷ 3 ∷ 3 ∷ 3 ∷ 3 ∷ 3 ∷
+    places ∷ places ∷ places ∷ places ∷ places ∷ places ∷ places ∷ 59 ∷ 41 ∷ 30 ∷ 24 ∷ 19 ∷ 16 ∷ 14 ∷ 12 ∷ 11 ∷ 10 ∷ 9 ∷ 8 ∷ 7 ∷ 7 ∷ 6 ∷ 6 ∷ 5 ∷ 5 ∷ 5 ∷ 4 ∷ 4 ∷ 4 ∷ 4 ∷ 4 ∷ 3 ∷ 3 ∷ 3 ∷ 3 ∷ 3 ∷ 3 ∷ 3 ∷ 3 ∷
     3 ∷ 2 ∷ 2 ∷ 2 ∷ 2 ∷ 2 ∷ 2 ∷ 2 ∷ 2 ∷ 2 ∷ 2 ∷ 2 ∷ 2 ∷ 2 ∷ 2 ∷ 2 ∷ 2 ∷ 2 ∷ 2 ∷ 2 ∷ 2 ∷ 2 ∷ 2 ∷ 2 ∷ 2 ∷ 1 ∷ 1 ∷ 1 ∷ 1 ∷ 1 ∷ 1 ∷ 1 ∷ 1 ∷ 1 ∷ 1 ∷ 1 ∷ 1 ∷ 1 ∷ 1 ∷ 1 ∷ 1 ∷ 1 ∷ []
 
--- below 2^64 up to the limit, and then the band to there has at most 525; not below it past the limit
+-- below 2^64 up to the limit, and then the band to there has room; not below it past the limit
 agree : Bool → Bool → Bool → Bool
 agree true b c = b && c
 agree false b c = not b
@@ -33,7 +35,7 @@ unfoldable right : ℕ → ℕ → ℕ → Bool
 unfolding agree
 right n k c = agree (ltb c (2 ^ 64)) (leb k (getD limits (n - k) 0)) (leb ((n - k + 1) * (k + 1)) capacity)
 
-tested : tests (λ k. k) right 81 0 (1 ∷ []) ≡ true
+tested : tests (λ k. k) right (places + 1) 0 (1 ∷ []) ≡ true
 unfolding tests holds right step
 tested = refl
 
@@ -63,21 +65,21 @@ start : row stirlingOf 0 ≡ 1 ∷ []
 unfolding row range stirlingOf
 start = refl
 
-pub below : (n k : ℕ) → n ≤ 80 → k ≤ n → Below n k
+pub below : (n k : ℕ) → n ≤ places → k ≤ n → Below n k
 below n k h b =
     let z : 0 + n ≡ n = zero-add n in
-    read n k (ap (λ (i : ℕ). right i k (stirlingOf i k)) (sym z) ∙ every (λ k. k) stirlingOf stirling-weighted right 81 0 (ap (tests (λ k. k) right 81 0) start ∙ tested) n k (omega arith) (omega arith))
+    read n k (ap (λ (i : ℕ). right i k (stirlingOf i k)) (sym z) ∙ every (λ k. k) stirlingOf stirling-weighted right (places + 1) 0 (ap (tests (λ k. k) right (places + 1) 0) start ∙ tested) n k (omega arith) (omega arith))
 
--- the rows to 26 are below it
+-- the stored rows are below it
 
-all-small : tests (λ k. k) (λ n k c. ltb c (2 ^ 64)) 27 0 (1 ∷ []) ≡ true
+all-small : tests (λ k. k) (λ n k c. ltb c (2 ^ 64)) (suc lastRow) 0 (1 ∷ []) ≡ true
 unfolding tests holds step
 all-small = refl
 
-pub small : (n k : ℕ) → n ≤ 26 → k ≤ n → ltb (stirlingOf n k) (2 ^ 64) ≡ true
+pub small : (n k : ℕ) → n ≤ lastRow → k ≤ n → ltb (stirlingOf n k) (2 ^ 64) ≡ true
 small n k h b =
     ap (λ (i : ℕ). ltb (stirlingOf i k) (2 ^ 64)) (sym (zero-add n))
-    ∙ every (λ k. k) stirlingOf stirling-weighted (λ n k c. ltb c (2 ^ 64)) 27 0 (ap (tests (λ k. k) (λ n k c. ltb c (2 ^ 64)) 27 0) start ∙ all-small) n k (omega arith) (omega arith)
+    ∙ every (λ k. k) stirlingOf stirling-weighted (λ n k c. ltb c (2 ^ 64)) (suc lastRow) 0 (ap (tests (λ k. k) (λ n k c. ltb c (2 ^ 64)) (suc lastRow) 0) start ∙ all-small) n k (omega arith) (omega arith)
 
 -- rows that have one limit: m of them from row a on
 unfoldable pub run : ℕ → ℕ → ℕ → Bool
@@ -93,7 +95,7 @@ in-run a (suc m) v d h from to = step (in-run (suc a) m v d) (and-eq-true-iff (e
     step later e (inl q) = ap (λ (i : ℕ). getD limits i 0) (sym q) ∙ eqb-true _ _ (e .0)
     step later e (inr q) = later (e .1) (omega arith) (omega arith)
 
-at-row : (d k v : ℕ) → getD limits d 0 ≡ v → k + d ≤ 80 → ltb (stirlingOf (k + d) k) (2 ^ 64) ≡ leb k v
+at-row : (d k v : ℕ) → getD limits d 0 ≡ v → k + d ≤ places → ltb (stirlingOf (k + d) k) (2 ^ 64) ≡ leb k v
 at-row d k v e h =
     let q : k + d - k ≡ d = omega arith in
     below (k + d) k h (omega arith) .fits ∙ ap (λ (i : ℕ). leb k (getD limits i 0)) q ∙ ap (leb k) e
@@ -101,8 +103,8 @@ at-row d k v e h =
 pub last : (a m v d : ℕ) → run a m v ≡ true → a ≤ d → d < a + m → LastColumn d v
 last a m v d h from to = record { fits = λ k. at-row d k v (in-run a m v d h from to) }
 
--- past row 80 no number is within the limits
-pub last-run : (a m v d : ℕ) → run a m v ≡ true → a + m ≡ 81 → a ≤ d → LastColumn d v
+-- past the places no number is within the limits
+pub last-run : (a m v d : ℕ) → run a m v ≡ true → a + m ≡ places + 1 → a ≤ d → LastColumn d v
 last-run a m v d h all from = record { fits = λ k few. at-row d k v (in-run a m v d h from (omega arith)) few }
 
 -- a row that shares its limit with no other

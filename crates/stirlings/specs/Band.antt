@@ -8,9 +8,9 @@ use lib.ListN.{length, getD}
 use Rattle.numbers.specs.Limits.{places}
 use Rattle.numbers.specs.Numbers.{stirlingOf}
 
--- as many numbers as the largest band has
+-- as many numbers as the largest band has, that of the most models in 74 blocks
 abbrev pub capacity : ℕ
-capacity = 525
+capacity = (places - 74 + 1) * (74 + 1)
 
 -- the first d rows, of w numbers each, are there: number j of row e is that of the partitions of j + e models into j blocks
 pub record Filled (t : List ℕ) (w d : ℕ) : Type 0 where

@@ -6,18 +6,26 @@ ghost use lib.Dec.{ltb};
 ghost use Rattle.numbers.specs.Limits.{places};
 ghost use Rattle.numbers.specs.Numbers.{stirlingOf};
 ghost use Rattle.stirlings.specs.Band.{capacity, Filled, LastColumn, Row};
+use numbers::PLACES;
+use stirling_rows::LAST_ROW;
 use stirling_rows::entry;
 
-// As many numbers as the largest band has, that of 80 models in 74 blocks: (80 - 74 + 1) * (74 + 1).
-pub const CAPACITY: usize = 525;
+// The band of the most models in as many blocks is the largest.
+const BLOCKS: usize = 74;
 
-// The last k for which S(k + d, k) is below 2^64, or a larger one where all with k + d up to 80 are. Read off the computed triangle; the proof
-// tests every number of it.
+// As many numbers as it has.
+pub const CAPACITY: usize = (PLACES as usize - BLOCKS + 1) * (BLOCKS + 1);
+
+// As many numbers as a row has.
+const COLUMNS: usize = PLACES as usize + 1;
+
+// The last k for which S(k + d, k) is below 2^64, or a larger one where all with k + d within the places are. Read off the computed triangle; the
+// proof tests every number of it.
 fn last_column(d: u64) -> u64
     ensures { λ r. ⌜ LastColumn d r ⌝ }
 {
     match d {
-        0..=6 => 80,
+        0..=6 => PLACES,
         7 => 59,
         8 => 41,
         9 => 30,
@@ -45,7 +53,7 @@ pub fn stirling_fits(n: u64, k: u64) -> bool
     requires { ⌜ n ≤ places ⌝ }
     ensures { λ r. ⌜ r ≡ ltb (stirlingOf n k) (2 ^ 64) ⌝ }
 {
-    if n <= 26 {
+    if n <= LAST_ROW {
         return true;
     }
     if n < k {
@@ -89,7 +97,7 @@ pub fn fill(n: u64, k: u64, t: &mut [u64; CAPACITY])
 }
 
 // Row d + 1 out of row d, in its place: to what stands on the left comes j times what stood here.
-fn next_row(t: &mut [u64; 81], w: usize, d: usize)
+fn next_row(t: &mut [u64; COLUMNS], w: usize, d: usize)
     requires { ⌜ w ≤ places + 1 ⌝ }
     requires { ⌜ ((j : ℕ) → j < w → stirlingOf (j + suc d) j < 2 ^ 64) ⌝ }
     requires { ⌜ Row (now t) w d ⌝ }
@@ -109,13 +117,13 @@ pub fn stirling(n: u64, k: u64) -> u64
     requires { ⌜ (n ≤ places) × (stirlingOf n k < 2 ^ 64) ⌝ }
     ensures { λ r. ⌜ r ≡ stirlingOf n k ⌝ }
 {
-    if n <= 26 {
+    if n <= LAST_ROW {
         return entry(n, k);
     }
     if n < k {
         return 0;
     }
-    let mut t = [1u64; 81];
+    let mut t = [1u64; COLUMNS];
     let w = k as usize + 1;
     let rows = (n - k) as usize;
     let mut d: usize = 0;

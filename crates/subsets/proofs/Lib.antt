@@ -1,6 +1,7 @@
 -- The laws of subsets: what the test says, that the listing is the listing of them, where they stand in it, and what a step and a rank come to in lists.
 pub mod Facts
 pub mod Theorem
+pub mod Laws
 pub mod Reading
 pub mod Places
 pub mod Moves

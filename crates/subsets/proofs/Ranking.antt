@@ -11,7 +11,7 @@ use lib.Seq.{getD-take, take-take}
 use Rattle.numbers.specs.Numbers.{choose}
 use Rattle.numbers.proofs.Laws.{pascal, choose-mono}
 use Rattle.listings.specs.Bytes.{Bytes}
-use Rattle.listings.specs.Orders.{lastDiffers}
+use Rattle.listings.specs.Orders.{colexBefore}
 use Rattle.listings.specs.Places.{At, countBefore}
 use Rattle.listings.proofs.PlaceRules.{at-below}
 use Rattle.listings.proofs.Ranks.{place-is-rank}
@@ -31,7 +31,7 @@ pub below-count : (n k : ℕ) (x : Bytes) → isSubset n k (take k x) ≡ true �
 below-count n k x o = omega (arith, at-below (subsets n k) (rankOf n k x) (at-rank (lists n k) (take k x) o), counted n k)
 
 pub rank-of-none : (n k : ℕ) (x : Bytes) → k ≡ 0 → 0 ≡ rankOf n k x
-unfolding subsets countBefore lastDiffers
+unfolding subsets countBefore colexBefore
 rank-of-none n zero x e = refl
 rank-of-none n (suc k) x e = absurd (omega arith)
 

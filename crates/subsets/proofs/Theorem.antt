@@ -11,7 +11,7 @@ use Rattle.numbers.specs.Numbers.{choose}
 use Rattle.listings.specs.Bytes.{Bytes}
 use Rattle.listings.specs.Listings.{Ascending, none, more, Listing}
 use Rattle.listings.proofs.AscendingRules.{ascending-append, ascending-map}
-use Rattle.listings.proofs.OrderFacts.{last-strict, earlier-front}
+use Rattle.listings.proofs.OrderFacts.{colex-strict, earlier-front}
 use Rattle.subsets.specs.Objects.{isSubset, subsetBefore}
 use Rattle.subsets.specs.Listing.{subsets}
 use Rattle.subsets.proofs.Facts.{subset-cases, subset-wider, no-numbers, is-empty, put-on, topped, by-top, without-first}
@@ -54,7 +54,7 @@ ascends (suc n) (suc k) =
 
 pub lists : (n k : ℕ) → Listing (isSubset n k) subsetBefore (subsets n k)
 lists n k = record {
-  order = last-strict (isSubset n k) k (long n k);
+  order = colex-strict (isSubset n k) k (long n k);
   every = every n k;
   only = only n k;
   ascending = ascends n k;

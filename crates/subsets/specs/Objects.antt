@@ -6,7 +6,7 @@ use Prim.Native.Nat.{ℕ}
 use lib.Dec.{leb, ltb, eqb}
 use lib.ListN.{length}
 use Rattle.listings.specs.Bytes.{Bytes}
-use Rattle.listings.specs.Orders.{lastDiffers}
+use Rattle.listings.specs.Orders.{colexBefore}
 
 -- every number is above a and above the one in front of it, and at most n
 unfoldable pub climbs : ℕ → ℕ → Bytes → Bool
@@ -19,4 +19,4 @@ isSubset n k x = eqb (length x) k && climbs 0 n x
 
 -- "at the last place where they differ, the smaller site number"
 abbrev pub subsetBefore : Bytes → Bytes → Bool
-subsetBefore = lastDiffers
+subsetBefore = colexBefore

@@ -18,6 +18,7 @@ use binomials::coefficient;
 use listings::Step;
 use listings::copied;
 use listings::fill_up;
+use numbers::LONGEST_OBJECT;
 use search::largest_top;
 use search::number_to_lower;
 use search::number_to_raise;
@@ -75,7 +76,7 @@ pub fn next(n: u64, object: &mut [u8]) -> Step
     }
     object[i] += 1;
     fill_up(&mut object[..i], 1);
-    Step::Stepped
+    Step::Moved
 }
 
 // The first number that can go down by one does, and those in front of it become the largest below it.
@@ -91,12 +92,12 @@ pub fn previous(n: u64, object: &mut [u8]) -> Step
     object[i] = top;
     let from = top - (i as u8);
     fill_up(&mut object[..i], from);
-    Step::Stepped
+    Step::Moved
 }
 
 // How many come before the first k numbers, by a call to itself for each: those without the last of them, and then as many as before the others, below
 // it. The numbers are lent as an array: where calls hand a slice on, the compiler makes no loop of them.
-fn rank_of(n: u64, numbers: &[u8; 80], k: usize) -> u64
+fn rank_of(n: u64, numbers: &[u8; LONGEST_OBJECT], k: usize) -> u64
     requires { ⌜ (n ≤ places) × (k ≤ places) ⌝ }
     requires { ⌜ isSubset n k (take k (now numbers)) ≡ true ⌝ }
     requires { ⌜ choose n k < 2 ^ 64 ⌝ }
@@ -122,7 +123,7 @@ pub fn rank(n: u64, object: &[u8]) -> u64
 }
 
 // The object of a rank: its last number leaves as many below it as fit into the rank, and the others make up the rest.
-pub fn unrank(n: u64, rank: u64, object: &mut [u8])
+pub fn unrank(rank: u64, n: u64, object: &mut [u8])
     requires { ⌜ n ≤ places ⌝ }
     requires { ⌜ choose n (length (now object)) < 2 ^ 64 ⌝ }
     requires { ⌜ rank < choose n (length (now object)) ⌝ }
@@ -133,9 +134,9 @@ pub fn unrank(n: u64, rank: u64, object: &mut [u8])
         return;
     }
     let end = k - 1;
-    let found = largest_top(n, k as u64, rank);
+    let found = largest_top(rank, n, k as u64);
     let top = found.0;
     let rest = rank - found.1;
     object[end] = (top + 1) as u8;
-    unrank(top, rest, &mut object[..end]);
+    unrank(rest, top, &mut object[..end]);
 }

@@ -55,7 +55,7 @@ pub fn number_to_lower(object: &[u8]) -> usize
 // The largest number below n out of which at most rank subsets of k can be made, and how many can.
 pub struct Top(pub u64, pub u64);
 
-pub fn largest_top(n: u64, k: u64, rank: u64) -> Top
+pub fn largest_top(rank: u64, n: u64, k: u64) -> Top
     requires { ⌜ (n ≤ places) × (choose n k < 2 ^ 64) ⌝ }
     requires { ⌜ (0 < k) × (rank < choose n k) ⌝ }
     ensures { λ r. ⌜ (r .0 < n) × ((r .1 ≡ choose (r .0) k) × ((choose (r .0) k ≤ rank) × (rank < choose (suc (r .0)) k))) ⌝ }

@@ -2,54 +2,98 @@
 
 use std::os::raw::c_uint;
 
-extern "C" {
-    fn arrangement_count(kind: u64, n: u64, k: u64, counts: *const u8, counts_len: usize, value: *mut u64) -> c_uint;
-    fn arrangement_first(kind: u64, n: u64, k: u64, counts: *const u8, counts_len: usize, object: *mut u8, object_len: usize) -> c_uint;
-    fn arrangement_last(kind: u64, n: u64, k: u64, counts: *const u8, counts_len: usize, object: *mut u8, object_len: usize) -> c_uint;
-    fn arrangement_next(kind: u64, n: u64, k: u64, counts: *const u8, counts_len: usize, object: *mut u8, object_len: usize) -> c_uint;
-    fn arrangement_previous(kind: u64, n: u64, k: u64, counts: *const u8, counts_len: usize, object: *mut u8, object_len: usize) -> c_uint;
-    fn arrangement_rank(kind: u64, n: u64, k: u64, counts: *const u8, counts_len: usize, object: *const u8, object_len: usize, value: *mut u64) -> c_uint;
-    fn arrangement_unrank(kind: u64, n: u64, k: u64, counts: *const u8, counts_len: usize, rank: u64, object: *mut u8, object_len: usize) -> c_uint;
-}
-
-/// A family, with the letter counts that kind 2 lends beside it.
-#[derive(Clone, Debug)]
+/// A family as it crosses, by value. Make one by `of`: later fields then have their defaults.
+#[repr(C)]
+#[derive(Clone, Copy, Debug)]
 pub struct Family {
     pub kind: u64,
     pub n: u64,
     pub k: u64,
+}
+
+impl Family {
+    pub fn of(kind: u64, n: u64, k: u64) -> Self {
+        Family { kind, n, k }
+    }
+}
+
+/// Bytes that are read only.
+#[repr(C)]
+struct CList {
+    bytes: *const u8,
+    length: usize,
+}
+
+/// All lists that are lent beside a family.
+#[repr(C)]
+struct CLists {
+    counts: CList,
+}
+
+extern "C" {
+    fn arrangement_object_length(f: Family, lists: *const CLists, value: *mut u64) -> c_uint;
+    fn arrangement_count(f: Family, lists: *const CLists, value: *mut u64) -> c_uint;
+    fn arrangement_first(f: Family, lists: *const CLists, object: *mut u8, object_len: usize) -> c_uint;
+    fn arrangement_last(f: Family, lists: *const CLists, object: *mut u8, object_len: usize) -> c_uint;
+    fn arrangement_next(f: Family, lists: *const CLists, object: *mut u8, object_len: usize) -> c_uint;
+    fn arrangement_previous(f: Family, lists: *const CLists, object: *mut u8, object_len: usize) -> c_uint;
+    fn arrangement_rank(f: Family, lists: *const CLists, object: *const u8, object_len: usize, value: *mut u64) -> c_uint;
+    fn arrangement_unrank(rank: u64, f: Family, lists: *const CLists, object: *mut u8, object_len: usize) -> c_uint;
+}
+
+/// A family, with the letter counts that kind 2 lends beside it.
+#[derive(Clone, Debug)]
+pub struct Arrangements {
+    pub family: Family,
     pub counts: Vec<u8>,
 }
 
 /// 0 answered, 100 END, 1 to 8 the first question missed.
 pub type Code = u32;
 
-impl Family {
+impl Arrangements {
+    fn parts(&self) -> (Family, CLists) {
+        let counts = CList { bytes: self.counts.as_ptr(), length: self.counts.len() };
+        (self.family, CLists { counts })
+    }
+
+    pub fn object_length(&self, value: &mut u64) -> Code {
+        let (f, lists) = self.parts();
+        unsafe { arrangement_object_length(f, &lists, value) }
+    }
+
     pub fn count(&self, value: &mut u64) -> Code {
-        unsafe { arrangement_count(self.kind, self.n, self.k, self.counts.as_ptr(), self.counts.len(), value) }
+        let (f, lists) = self.parts();
+        unsafe { arrangement_count(f, &lists, value) }
     }
 
     pub fn first(&self, object: &mut [u8]) -> Code {
-        unsafe { arrangement_first(self.kind, self.n, self.k, self.counts.as_ptr(), self.counts.len(), object.as_mut_ptr(), object.len()) }
+        let (f, lists) = self.parts();
+        unsafe { arrangement_first(f, &lists, object.as_mut_ptr(), object.len()) }
     }
 
     pub fn last(&self, object: &mut [u8]) -> Code {
-        unsafe { arrangement_last(self.kind, self.n, self.k, self.counts.as_ptr(), self.counts.len(), object.as_mut_ptr(), object.len()) }
+        let (f, lists) = self.parts();
+        unsafe { arrangement_last(f, &lists, object.as_mut_ptr(), object.len()) }
     }
 
     pub fn next(&self, object: &mut [u8]) -> Code {
-        unsafe { arrangement_next(self.kind, self.n, self.k, self.counts.as_ptr(), self.counts.len(), object.as_mut_ptr(), object.len()) }
+        let (f, lists) = self.parts();
+        unsafe { arrangement_next(f, &lists, object.as_mut_ptr(), object.len()) }
     }
 
     pub fn previous(&self, object: &mut [u8]) -> Code {
-        unsafe { arrangement_previous(self.kind, self.n, self.k, self.counts.as_ptr(), self.counts.len(), object.as_mut_ptr(), object.len()) }
+        let (f, lists) = self.parts();
+        unsafe { arrangement_previous(f, &lists, object.as_mut_ptr(), object.len()) }
     }
 
     pub fn rank(&self, object: &[u8], value: &mut u64) -> Code {
-        unsafe { arrangement_rank(self.kind, self.n, self.k, self.counts.as_ptr(), self.counts.len(), object.as_ptr(), object.len(), value) }
+        let (f, lists) = self.parts();
+        unsafe { arrangement_rank(f, &lists, object.as_ptr(), object.len(), value) }
     }
 
     pub fn unrank(&self, rank: u64, object: &mut [u8]) -> Code {
-        unsafe { arrangement_unrank(self.kind, self.n, self.k, self.counts.as_ptr(), self.counts.len(), rank, object.as_mut_ptr(), object.len()) }
+        let (f, lists) = self.parts();
+        unsafe { arrangement_unrank(rank, f, &lists, object.as_mut_ptr(), object.len()) }
     }
 }

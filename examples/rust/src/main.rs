@@ -1,10 +1,10 @@
 //! A number for an arrangement, the arrangement for a number, one step on and back. Build and run: examples/rust/run
 
-use arrangements_example::Family;
+use arrangements_example::{Arrangements, Family};
 
 fn main() {
     // Fourteen bytes of a plan with seven branches.
-    let plans = Family { kind: 6, n: 7, k: 0, counts: vec![] };
+    let plans = Arrangements { family: Family::of(6, 7, 0), counts: vec![] };
     let mut plan = [1, 1, 0, 1, 1, 0, 0, 0, 1, 1, 1, 0, 0, 0];
     let (mut all, mut number) = (0, 0);
     assert_eq!(plans.count(&mut all), 0);

@@ -3,7 +3,7 @@
 
 mod reference;
 
-use arrangements_example::Family;
+use arrangements_example::{Arrangements, Family};
 use reference::{refusal, Kind, Tables, LARGE};
 use std::cmp::Ordering;
 
@@ -22,7 +22,7 @@ impl Random {
     }
 }
 
-const CALLS: [&str; 7] = ["COUNT", "FIRST", "LAST", "NEXT", "PREVIOUS", "RANK", "UNRANK"];
+const CALLS: [&str; 8] = ["LENGTH", "COUNT", "FIRST", "LAST", "NEXT", "PREVIOUS", "RANK", "UNRANK"];
 
 /// A family, mostly one that the table allows; some at the edges of 2^64.
 fn family(r: &mut Random) -> Kind {
@@ -133,10 +133,10 @@ fn main() {
     let mut answered = 0u64;
     for turn in 0..calls {
         let f = family(&mut r);
-        let lib = Family { kind: f.kind, n: f.n, k: f.k, counts: f.counts.clone() };
+        let lib = Arrangements { family: Family::of(f.kind, f.n, f.k), counts: f.counts.clone() };
         let usable = refusal(&t, &f, "FIRST", &[], 0) == 6 || refusal(&t, &f, "FIRST", &[], 0) == 0;
         let x = buffer(&mut r, &t, &f, usable);
-        let call = CALLS[r.below(7) as usize];
+        let call = CALLS[r.below(8) as usize];
         let rank = match r.below(4) {
             0 => r.below(100),
             1 if usable => (f.count(&t).min(u64::MAX as u128)) as u64 - r.below(2),
@@ -144,6 +144,7 @@ fn main() {
         };
         let (mut y, mut value) = (x.clone(), 77u64);
         let code = match call {
+            "LENGTH" => lib.object_length(&mut value),
             "COUNT" => lib.count(&mut value),
             "FIRST" => lib.first(&mut y),
             "LAST" => lib.last(&mut y),
@@ -159,6 +160,7 @@ fn main() {
             answered += 1;
             let count = f.count(&t);
             match call {
+                "LENGTH" => code == 0 && value as usize == f.length(),
                 "COUNT" => code == 0 && value as u128 == count,
                 "FIRST" => code == 0 && y == f.unrank(&t, 0),
                 "LAST" => code == 0 && f.holds(&y) && (count >= LARGE || y == f.unrank(&t, count - 1)),

@@ -341,7 +341,7 @@ fn dyck_rank(t: &Tables, x: &[u8]) -> u128 {
 /// What a call answers: a code as the library's, and a value for COUNT and RANK.
 pub fn refusal(t: &Tables, f: &Kind, call: &str, x: &[u8], rank: u64) -> u32 {
     let q = f.table();
-    if q != 0 {
+    if q != 0 || call == "LENGTH" {
         return q;
     }
     let count = f.count(t);

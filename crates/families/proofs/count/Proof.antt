@@ -1,23 +1,20 @@
--- `families::count` meets its contract. COUNT has been asked whether the count fits.
+-- `families::count` meets its contract. COUNT is asked what all calls are, and whether the count fits, which the count itself tells.
 -- Assumes nothing.
-use mathlib.Core.Path.{refl, _∙_, ap}
+use mathlib.Core.Path.{sym, _∙_, ap}
 use mathlib.Core.List.{[]}
 use Prim.Native.Nat.{ℕ}
 use borrow.Author.Needs.{needs}
-use Rattle.listings.specs.Calls.{COUNT, COUNTED, Said, act}
-use Rattle.families.specs.Listing.{countOf}
-use Rattle.families.specs.Questions.{asked, isIn}
-use Rattle.families.proofs.Asking.{fits-asked}
-use Rattle.families.proofs.Verdicts.{verdict, admitted}
-use Rattle.families.proofs.Responses.{refused, acts}
+use Rattle.listings.specs.Calls.{COUNT, COUNTED, Said}
+use Rattle.counting.proofs.Answers.{exactly, exactly-below}
+use Rattle.families.proofs.FamilyFacts.{allowed-asked}
+use Rattle.families.proofs.Verdicts.{verdict, refused-early}
+use Rattle.families.proofs.CountAnswers.{not-exact}
+use Rattle.families.proofs.Responses.{refused, count-said, count-refused}
 use Rattle.families.proofs.count.Statement.{statement}
 use Rattle.families.proofs.count.Tie as tie
 
-slice-aggregate-ask : tie.Need-slice-aggregate-ask
-slice-aggregate-ask c = search needs
-
-ask-requires : tie.Need-ask-requires
-ask-requires c κs = tt
+asked-of-all-requires : tie.Need-asked-of-all-requires
+asked-of-all-requires c κs = search needs
 
 enum-known-q : tie.Need-enum-known-q
 enum-known-q c = search needs
@@ -26,26 +23,31 @@ enum-told : tie.Need-enum-told
 enum-told c = search needs
 
 answer-requires : tie.Need-answer-requires
-unfolding asked isIn
-answer-requires c κs =
-    let pass = verdict (c .before .before .ask .ensures) (c .enum-told .given .1) in
-    (admitted COUNT _ _ _ _ pass, fits-asked _ _ COUNT _ _ refl pass)
+answer-requires c κs = allowed-asked _ _ (verdict (c .before .before .asked-of-all .ensures) (c .enum-told .given .1))
+
+enum-known-objects : tie.Need-enum-known-objects
+enum-known-objects c = search needs
 
 returns : tie.Need-returns
-unfolding act countOf
-returns c = ap {B = Said} (λ (n : ℕ). (COUNTED n, [])) (c .answer .ensures) ∙ acts _ _ _ COUNT (verdict (c .before .before .before .ask .ensures) (c .before .enum-told .given .1))
+returns c = count-refused _ _ _ (verdict (c .before .before .before .before .asked-of-all .ensures) (c .before .before .enum-told .given .1)) (not-exact _ (c .before .answer .ensures) (c .match2 .keys2))
 
 returns-2 : tie.Need-returns-2
-returns-2 c = refused _ _ _ COUNT (verdict (c .before .before .before .ask .ensures) (c .before .q .given .1))
+returns-2 c =
+    let exact = sym (c .before .before .before .answer .ensures) ∙ c .before .objects .given .1 in
+    ap {B = Said} (λ (n : ℕ). (COUNTED n, [])) (sym (exactly _ _ exact)) ∙ count-said _ _ _ (verdict (c .before .before .before .before .before .before .asked-of-all .ensures) (c .before .before .before .before .enum-told .given .1)) (exactly-below _ _ exact)
+
+returns-3 : tie.Need-returns-3
+returns-3 c = refused _ _ _ COUNT (refused-early _ _ COUNT _ _ (verdict (c .before .before .before .asked-of-all .ensures) (c .before .q .given .1)))
 
 pub count-spec : {M : Type 1} → statement M
 count-spec =
     tie.close
     (tie.spec
-    slice-aggregate-ask
-    ask-requires
+    asked-of-all-requires
     enum-known-q
     enum-told
     answer-requires
+    enum-known-objects
     returns
-    returns-2)
+    returns-2
+    returns-3)

@@ -3,9 +3,8 @@
 use mathlib.Core.Path.{refl}
 use borrow.Author.Needs.{needs}
 use Rattle.listings.specs.Calls.{FIRST}
-use Rattle.families.specs.Listing.{countOf}
-use Rattle.families.proofs.Asking.{asks-enough}
-use Rattle.families.proofs.Verdicts.{verdict, admitted}
+use Rattle.families.specs.Families.{countOf}
+use Rattle.families.proofs.Verdicts.{verdict, admitted, asks-enough}
 use Rattle.families.proofs.Responses.{refused, writes-first}
 use Rattle.families.proofs.first.Statement.{statement}
 use Rattle.families.proofs.first.Tie as tie
@@ -23,7 +22,7 @@ first-requires : tie.Need-first-requires
 unfolding countOf
 first-requires c κs =
     let pass = verdict (c .before .before .before .ask .ensures) (c .before .enum-told .given .1) in
-    (admitted FIRST _ _ _ _ pass, (asks-enough _ _ .some-first _ _ pass, asks-enough _ _ .sized FIRST _ _ refl pass))
+    (admitted _ _ FIRST _ _ pass, (asks-enough _ _ .some-first _ _ pass, asks-enough _ _ .sized FIRST _ _ refl pass))
 
 same-length : tie.Need-same-length
 same-length c = search needs

@@ -3,9 +3,8 @@
 use mathlib.Core.Path.{refl}
 use borrow.Author.Needs.{needs}
 use Rattle.listings.specs.Calls.{LAST}
-use Rattle.families.specs.Listing.{countOf}
-use Rattle.families.proofs.Asking.{asks-enough}
-use Rattle.families.proofs.Verdicts.{verdict, admitted}
+use Rattle.families.specs.Families.{countOf}
+use Rattle.families.proofs.Verdicts.{verdict, admitted, asks-enough}
 use Rattle.families.proofs.Responses.{refused, writes-last}
 use Rattle.families.proofs.last.Statement.{statement}
 use Rattle.families.proofs.last.Tie as tie
@@ -23,7 +22,7 @@ last-requires : tie.Need-last-requires
 unfolding countOf
 last-requires c κs =
     let pass = verdict (c .before .before .before .ask .ensures) (c .before .enum-told .given .1) in
-    (admitted LAST _ _ _ _ pass, (asks-enough _ _ .some-last _ _ pass, asks-enough _ _ .sized LAST _ _ refl pass))
+    (admitted _ _ LAST _ _ pass, (asks-enough _ _ .some-last _ _ pass, asks-enough _ _ .sized LAST _ _ refl pass))
 
 same-length : tie.Need-same-length
 same-length c = search needs

@@ -3,10 +3,8 @@
 use mathlib.Core.Path.{refl, _∙_}
 use borrow.Author.Needs.{needs}
 use Rattle.listings.specs.Calls.{NEXT}
-use Rattle.families.proofs.Asking.{asks-enough}
-use Rattle.families.proofs.Verdicts.{verdict}
+use Rattle.families.proofs.Verdicts.{verdict, asks-enough}
 use Rattle.families.proofs.Responses.{refused, acts}
-use Rattle.families.proofs.next.Reads as reads
 use Rattle.families.proofs.next.Statement.{statement}
 use Rattle.families.proofs.next.Tie as tie
 
@@ -22,14 +20,14 @@ enum-told c = search needs
 next-requires : tie.Need-next-requires
 next-requires c κs = asks-enough _ _ .reads NEXT _ _ refl (verdict (c .before .before .before .ask .ensures) (c .before .enum-told .given .1))
 
-moved-requires : tie.Need-moved-requires
-moved-requires c κs = tt
+step-answer-requires : tie.Need-step-answer-requires
+step-answer-requires c κs = tt
 
 same-length : tie.Need-same-length
 same-length c = search needs
 
 returns : tie.Need-returns
-returns c = rw (c .moved .ensures) (c .before .before .before .next .ensures ∙ acts _ _ _ NEXT (verdict (c .before .before .before .before .before .before .before .ask .ensures) (c .before .before .before .before .before .enum-told .given .1)))
+returns c = rw (c .step-answer .ensures) (c .before .before .before .next .ensures ∙ acts _ _ _ NEXT (verdict (c .before .before .before .before .before .before .before .ask .ensures) (c .before .before .before .before .before .enum-told .given .1)))
 
 same-length-2 : tie.Need-same-length-2
 same-length-2 c = search needs
@@ -45,7 +43,7 @@ next-spec =
     enum-known-q
     enum-told
     next-requires
-    moved-requires
+    step-answer-requires
     same-length
     returns
     same-length-2

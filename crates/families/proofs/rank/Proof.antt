@@ -3,12 +3,10 @@
 use mathlib.Core.Path.{refl}
 use borrow.Author.Needs.{needs}
 use Rattle.listings.specs.Calls.{RANK, act}
-use Rattle.families.specs.Listing.{rankOf}
+use Rattle.families.specs.Families.{rankOf}
 use Rattle.families.specs.Questions.{asked, isIn}
-use Rattle.families.proofs.Asking.{asks-enough, fits-asked}
-use Rattle.families.proofs.Verdicts.{verdict}
+use Rattle.families.proofs.Verdicts.{verdict, asks-enough, fits-asked}
 use Rattle.families.proofs.Responses.{refused, acts}
-use Rattle.families.proofs.rank.Reads as reads
 use Rattle.families.proofs.rank.Statement.{statement}
 use Rattle.families.proofs.rank.Tie as tie
 

@@ -4,10 +4,9 @@ use mathlib.Core.Path.{refl}
 use native.Mathlib.Omega.{arith}
 use borrow.Author.Needs.{needs}
 use Rattle.listings.specs.Calls.{UNRANK}
-use Rattle.families.specs.Listing.{countOf}
+use Rattle.families.specs.Families.{countOf}
 use Rattle.families.specs.Questions.{asked, isIn}
-use Rattle.families.proofs.Asking.{asks-enough, fits-asked}
-use Rattle.families.proofs.Verdicts.{verdict, admitted}
+use Rattle.families.proofs.Verdicts.{verdict, admitted, asks-enough, fits-asked}
 use Rattle.families.proofs.Responses.{refused, writes-ranked}
 use Rattle.families.proofs.unrank.Statement.{statement}
 use Rattle.families.proofs.unrank.Tie as tie
@@ -25,13 +24,13 @@ unrank-requires : tie.Need-unrank-requires
 unfolding countOf asked isIn
 unrank-requires c κs =
     let pass = verdict (c .before .before .before .ask .ensures) (c .before .enum-told .given .1) in
-    (admitted (UNRANK _) _ _ _ _ pass, (fits-asked _ _ (UNRANK _) _ _ refl pass, (asks-enough _ _ .sized (UNRANK _) _ _ refl pass, omega (arith, asks-enough _ _ .below _ _ _ pass))))
+    (admitted _ _ (UNRANK _) _ _ pass, (fits-asked _ _ (UNRANK _) _ _ refl pass, (asks-enough _ _ .sized (UNRANK _) _ _ refl pass, omega (arith, asks-enough _ _ .below _ _ _ pass))))
 
 same-length : tie.Need-same-length
 same-length c = search needs
 
 returns : tie.Need-returns
-returns c = writes-ranked _ _ _ (c .before .before .before .before .before .before .before .before .before .before .args .rank) (c .before .before .unrank .ensures) (verdict (c .before .before .before .before .before .before .ask .ensures) (c .before .before .before .before .enum-told .given .1))
+returns c = writes-ranked _ _ _ _ (c .before .before .unrank .ensures) (verdict (c .before .before .before .before .before .before .ask .ensures) (c .before .before .before .before .enum-told .given .1))
 
 same-length-2 : tie.Need-same-length-2
 same-length-2 c = search needs

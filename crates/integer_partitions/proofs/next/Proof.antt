@@ -37,7 +37,7 @@ returns : tie.Need-returns
 returns c =
     let a = c .before .before .before .before .args in
     let k : ℕ = length (a .object .now) in
-    next-ends (lists k (a .floor) (a .n)) (full-last (a .floor) (a .n) k (a .object .now) (c .before .before .before .before .pre .1) (λ j l. c .before .part-to-raise .ensures .1 .0 j (omega (arith, c .if1 .taken))))
+    next-ends (lists (a .floor) (a .n) k) (full-last (a .floor) (a .n) k (a .object .now) (c .before .before .before .before .pre .1) (λ j l. c .before .part-to-raise .ensures .1 .0 j (omega (arith, c .if1 .taken))))
 
 slice-read-p : tie.Need-slice-read-p
 slice-read-p c = search needs
@@ -85,7 +85,7 @@ same-length-2 c = search needs
 returns-2 : tie.Need-returns-2
 returns-2 c =
     let a = c .before .before .before .before .before .before .before .before .before .before .before .before .args in
-    next-steps (lists (length (a .object .now)) (a .floor) (a .n))
+    next-steps (lists (a .floor) (a .n) (length (a .object .now)))
     (raises (a .floor) (a .n) (c .before .before .before .before .before .before .before .before .before .part-to-raise .result) (c .before .before .before .before .wide .result) (c .before .before .before .before .before .sum .result) (a .object .now) (c .before .before .first .last .1 .1 .0) (c .before .before .before .before .before .before .before .before .before .before .before .before .pre .1) (inside (c .before .before .before .before .before .before .before .before))
     (c .before .before .before .before .before .before .before .before .before .part-to-raise .ensures .1 .0) (c .before .before .before .before .before .before .before .before .before .part-to-raise .ensures .1 .1 (inside (c .before .before .before .before .before .before .before .before))) (c .before .before .before .before .wide .ensures) (c .before .before .before .before .before .sum .ensures) (c .before .before .first .kept .1 .1 .0) (c .before .before .first .ensures))
 

@@ -40,7 +40,7 @@ returns : tie.Need-returns
 returns c =
     let a = c .before .before .before .before .args in
     let k : ℕ = length (a .object .now) in
-    previous-ends (lists k (a .floor) (a .n)) (level-first (a .floor) (a .n) k (a .object .now) (c .before .before .before .before .pre .1) (λ j pos l. c .before .part-to-lower .ensures .1 .0 j pos (omega (arith, c .if1 .taken))))
+    previous-ends (lists (a .floor) (a .n) k) (level-first (a .floor) (a .n) k (a .object .now) (c .before .before .before .before .pre .1) (λ j pos l. c .before .part-to-lower .ensures .1 .0 j pos (omega (arith, c .if1 .taken))))
 
 slice-read-p : tie.Need-slice-read-p
 slice-read-p c = search needs
@@ -91,7 +91,7 @@ same-length-2 c = search needs
 returns-2 : tie.Need-returns-2
 returns-2 c =
     let a = c .before .before .before .before .before .before .before .before .before .before .before .before .args in
-    previous-steps (lists (length (a .object .now)) (a .floor) (a .n))
+    previous-steps (lists (a .floor) (a .n) (length (a .object .now)))
     (lowers (a .floor) (a .n) (c .before .before .before .before .before .before .before .before .before .part-to-lower .result) (c .before .before .before .before .wide .result) (c .before .before .before .before .before .sum .result) (c .before .before .last .last .1 .1 .0) (a .object .now) (c .before .before .before .before .before .before .before .before .before .before .before .before .pre .1) (inside (c .before .before .before .before .before .before .before .before))
     (c .before .before .before .before .before .before .before .before .before .part-to-lower .ensures .1 .0) (found (c .before .before .before .before .before .before .before .before) .1) (c .before .before .before .before .wide .ensures) (c .before .before .before .before .before .sum .ensures) (c .before .before .last .kept .1 .1 .0) (c .before .before .last .ensures))
 

@@ -1,4 +1,4 @@
--- `integer_partitions::rank` meets its contract. The invariant: what is counted so far and the rank of the first k parts make the rank; the
+-- `integer_partitions::rank` meets its contract. The invariant: what is counted far and so the rank of the first k parts make the rank; the
 -- measure is k. Assumes nothing.
 use native.Mathlib.Omega.{arith}
 use lib.ListN.{length}
@@ -39,13 +39,13 @@ loop-again c =
     let w = c .before .wide in
     ranking-on (w .result) (c .with-smaller .result) (c .before .before .before .before .loop .inv) (omega arith) (w .ensures) (c .with-smaller .ensures)
 
--- what is counted so far is at most the rank, which fits
+-- what is counted far is so at most the rank, which fits
 add-earlier : tie.Need-add-earlier Inv-loop μ-loop
 add-earlier c =
     let s = c .before .before .before .before .before .before in
     let a = s .args in
     let x = a .object .now in
-    record { fits = omega (arith, loop-again c .sum, rank-within (a .floor) (a .n) (length x) x (s .pre .1), small-over (length x) (a .floor) (a .n) (omega arith) (omega arith)) }
+    record { fits = omega (arith, loop-again c .sum, rank-within (a .floor) (a .n) (length x) x (s .pre .1), small-over (a .floor) (a .n) (length x) (omega arith) (omega arith)) }
 
 sub-left : tie.Need-sub-left Inv-loop μ-loop
 sub-left c = omega (arith, c .before .wide .ensures, last-of (c .before .before .before .before .loop .inv) (omega arith))

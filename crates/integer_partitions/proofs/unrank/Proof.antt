@@ -10,10 +10,10 @@ use Rattle.integer_partitions.proofs.unrank.Statement.{statement}
 use Rattle.integer_partitions.proofs.unrank.Tie as tie
 
 abbrev Inv-loop : tie.InvT-loop
-Inv-loop floor n rank object₀ r₀ least₀ left₀ k₀ object r least left k = Unranking (length object₀) floor n rank r least left k object
+Inv-loop rank floor n object₀ r₀ least₀ left₀ k₀ object r least left k = Unranking (length object₀) floor n rank r least left k object
 
 abbrev μ-loop : tie.MeasureT-loop
-μ-loop floor n rank object₀ r₀ least₀ left₀ k₀ object r least left k = k + (n + 1 - least)
+μ-loop rank floor n object₀ r₀ least₀ left₀ k₀ object r least left k = k + (n + 1 - least)
 
 loop-holds : tie.Need-loop-holds Inv-loop μ-loop
 loop-holds c = let a = c .before .args in unranking (a .floor) (a .n) (a .rank) (a .object .now) (omega arith) (c .before .pre .1)
@@ -75,7 +75,7 @@ first-requires : tie.Need-first-requires Inv-loop μ-loop
 first-requires c κs =
     let l = c .before .before .loop in
     let u = l .inv in
-    let fit = fits-first (l .k) (l .least) (l .left) (omega arith) in
+    let fit = fits-first (l .least) (l .left) (l .k) (omega arith) in
     rw (length-take-le (l .k) (l .object) (omega arith)) ((omega (arith, c .before .before .before .before .pre), fit .room), (fit .none, u .floor))
 
 same-length : tie.Need-same-length Inv-loop μ-loop

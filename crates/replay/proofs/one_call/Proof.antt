@@ -1,6 +1,6 @@
 -- `replay::one_call` meets its contract: each arm is the call of its code, and what is left over is FIRST.
 -- Assumes nothing.
-use Rattle.replay.proofs.Coding.{otherwise-first, coded}
+use Rattle.replay.proofs.Coding.{otherwise-first, coding}
 use Rattle.replay.specs.Codes.{callOf}
 use Prim.Native.Nat.{ℕ}
 use mathlib.Core.Path.{ap}
@@ -19,7 +19,7 @@ same-length c = search needs
 
 returns : tie.Need-returns
 unfolding callOf
-returns c = coded _ _ _ _ (ap (λ (n : ℕ). callOf n (c .before .before .before .before .before .before .before .before .args .rank)) (c .before .before .before .before .before .if1 .taken)) (c .before .before .before .last .ensures) (c .written .ensures)
+returns c = coding _ _ _ _ (ap (λ (n : ℕ). callOf n (c .before .before .before .before .before .before .before .args .rank)) (c .before .before .before .before .before .if1 .taken)) (c .before .before .before .last .ensures) (c .written .ensures)
 
 next-requires : tie.Need-next-requires
 next-requires c κs = search needs
@@ -32,7 +32,7 @@ same-length-2 c = search needs
 
 returns-2 : tie.Need-returns-2
 unfolding callOf
-returns-2 c = coded _ _ _ _ (ap (λ (n : ℕ). callOf n (c .before .before .before .before .before .before .before .before .before .args .rank)) (c .before .before .before .before .before .if2 .taken)) (c .before .before .before .next .ensures) (c .stepped .ensures)
+returns-2 c = coding _ _ _ _ (ap (λ (n : ℕ). callOf n (c .before .before .before .before .before .before .before .before .args .rank)) (c .before .before .before .before .before .if2 .taken)) (c .before .before .before .next .ensures) (c .stepped .ensures)
 
 previous-requires : tie.Need-previous-requires
 previous-requires c κs = search needs
@@ -45,7 +45,7 @@ same-length-3 c = search needs
 
 returns-3 : tie.Need-returns-3
 unfolding callOf
-returns-3 c = coded _ _ _ _ (ap (λ (n : ℕ). callOf n (c .before .before .before .before .before .before .before .before .before .before .args .rank)) (c .before .before .before .before .before .if3 .taken)) (c .before .before .before .previous .ensures) (c .stepped2 .ensures)
+returns-3 c = coding _ _ _ _ (ap (λ (n : ℕ). callOf n (c .before .before .before .before .before .before .before .before .before .args .rank)) (c .before .before .before .before .before .if3 .taken)) (c .before .before .before .previous .ensures) (c .stepped2 .ensures)
 
 unrank-requires : tie.Need-unrank-requires
 unrank-requires c κs = search needs
@@ -58,7 +58,7 @@ same-length-4 c = search needs
 
 returns-4 : tie.Need-returns-4
 unfolding callOf
-returns-4 c = coded _ _ _ _ (ap (λ (n : ℕ). callOf n (c .before .before .before .before .before .before .before .before .before .before .before .args .rank)) (c .before .before .before .before .before .if4 .taken)) (c .before .before .before .unrank .ensures) (c .written2 .ensures)
+returns-4 c = coding _ _ _ _ (ap (λ (n : ℕ). callOf n (c .before .before .before .before .before .before .before .before .before .before .args .rank)) (c .before .before .before .before .before .if4 .taken)) (c .before .before .before .unrank .ensures) (c .written2 .ensures)
 
 first-requires : tie.Need-first-requires
 first-requires c κs = search needs
@@ -70,7 +70,7 @@ same-length-5 : tie.Need-same-length-5
 same-length-5 c = search needs
 
 returns-5 : tie.Need-returns-5
-returns-5 c = coded _ _ _ _ (otherwise-first (c .before .before .before .before .before .before .before .before .before .before .before .args .call) (c .before .before .before .before .before .before .before .before .before .before .before .args .rank) (c .before .before .before .before .before .before .before .before .if1 .left) (c .before .before .before .before .before .before .before .if2 .left) (c .before .before .before .before .before .before .if3 .left) (c .before .before .before .before .before .if4 .left)) (c .before .before .before .first .ensures) (c .written3 .ensures)
+returns-5 c = coding _ _ _ _ (otherwise-first (c .before .before .before .before .before .before .before .before .before .before .args .call) (c .before .before .before .before .before .before .before .before .before .before .args .rank) (c .before .before .before .before .before .before .before .before .if1 .left) (c .before .before .before .before .before .before .before .if2 .left) (c .before .before .before .before .before .before .if3 .left) (c .before .before .before .before .before .if4 .left)) (c .before .before .before .first .ensures) (c .written3 .ensures)
 
 pub one-call-spec : {M : Type 1} → statement M
 one-call-spec =

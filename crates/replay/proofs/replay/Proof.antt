@@ -13,19 +13,19 @@ known-requires : tie.Need-known-requires
 known-requires c κs = search needs
 
 returns : tie.Need-returns
-returns c = refuses _ _ _ _ _ _ _ (λ p. true≢false (sym (p .codes) ∙ sym (c .before .known .ensures) ∙ not-true _ (c .if1 .taken)))
+returns c = refuses _ _ _ _ _ (λ p. true≢false (sym (p .codes) ∙ sym (c .before .known .ensures) ∙ not-true _ (c .if1 .taken)))
 
 returns-2 : tie.Need-returns-2
-returns-2 c = refuses _ _ _ _ _ _ _ (λ p. omega (arith, p .ranked))
+returns-2 c = refuses _ _ _ _ _ (λ p. omega (arith, p .ranked))
 
 returns-3 : tie.Need-returns-3
-returns-3 c = refuses _ _ _ _ _ _ _ (λ p. omega (arith, p .answered))
+returns-3 c = refuses _ _ _ _ _ (λ p. omega (arith, p .answered))
 
 is-product-requires : tie.Need-is-product-requires
 is-product-requires c κs = search needs
 
 returns-4 : tie.Need-returns-4
-returns-4 c = refuses _ _ _ _ _ _ _ (λ p. eqb-false _ _ (sym (c .before .is-product .ensures) ∙ not-true _ (c .if4 .taken)) (p .room))
+returns-4 c = refuses _ _ _ _ _ (λ p. eqb-false _ _ (sym (c .before .is-product .ensures) ∙ not-true _ (c .if4 .taken)) (p .room))
 
 run-requires : tie.Need-run-requires
 run-requires c κs = (c .before .before .before .before .before .before .if2 .left, (c .before .before .before .before .before .if3 .left, eqb-true _ _ (sym (c .before .before .before .before .is-product .ensures) ∙ not-false _ (c .before .before .before .if4 .left))))
@@ -41,7 +41,7 @@ same-length-3 c = search needs
 
 returns-5 : tie.Need-returns-5
 returns-5 c =
-    runs _ _ _ _ _ _ _
+    runs _ _ _ _ _
     (record {
       codes = sym (c .before .before .before .before .before .before .before .before .before .before .before .before .before .before .before .known .ensures) ∙ not-false _ (c .before .before .before .before .before .before .before .before .before .before .before .before .before .before .if1 .left);
       ranked = c .before .before .before .before .before .before .before .before .before .before .before .before .before .if2 .left;

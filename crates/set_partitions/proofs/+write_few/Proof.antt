@@ -20,7 +20,7 @@ use Rattle.set_partitions.proofs.+write_few.{statement}
 use Rattle.set_partitions.proofs.+write_few.Tie.{close}
 
 abbrev μ-write-few : Measures 1 write-few-kinds.ps ℕ
-μ-write-few κs a = a .0
+μ-write-few κs a = a .1 .0
 
 abbrev write-few-at : ℕ → In 1 write-few-kinds.ps
 write-few-at t = and 1 write-few-kinds.ps (is 1 write-few-kinds.ps μ-write-few t) write-few.Pre
@@ -175,7 +175,7 @@ write-few-returns-2 t c =
     let e = c .before .before .before .before in
     let y = c .write-few .last .1 .1 .1 .0 in
     written (a .n) (a .k) (a .rank) _ (e .place-at .result .1) (some t e) (split-here t (c .before .before .before .before .before .before)) (placed t e) (a .blocks .now) y (places-there (a .n) (a .blocks .now) (c .before .before .before .before .before .before .before .pre .1 .1 .1))
-    (subst₂ (λ j v. Written (a .n - 1) j (e .place-at .result .1) (set (a .blocks .now) (a .n - 1) v) y) (c .before .before .others-in .ensures) (c .before .before .before .block-of .ensures) (c .write-few .ensures))
+    (subst₂ (λ j v. Written (e .place-at .result .1) (a .n - 1) j (set (a .blocks .now) (a .n - 1) v) y) (c .before .before .others-in .ensures) (c .before .before .before .block-of .ensures) (c .write-few .ensures))
 
 pub +write-few-spec : {M : Type 1} → statement M
 +write-few-spec = close μ-write-few λ t. write-few-lts.spec (

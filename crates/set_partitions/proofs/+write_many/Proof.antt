@@ -23,7 +23,7 @@ use Rattle.set_partitions.proofs.+write_many.{statement}
 use Rattle.set_partitions.proofs.+write_many.Tie.{close}
 
 abbrev μ-write-many : Measures 2 write-many-kinds.ps ℕ
-μ-write-many κs a = a .0
+μ-write-many κs a = a .1 .0
 
 abbrev write-many-at : ℕ → In 2 write-many-kinds.ps
 write-many-at t =
@@ -283,7 +283,7 @@ write-many-returns-2 t c =
     let e = c .before .before .before .before .before in
     let y = c .write-many .last .1 .1 .1 .0 in
     written (a .n) (a .k) (a .rank) _ (e .place-at .result .1) (some t e) (split-here t (c .before .before .before .before .before .before .before .before)) (placed t e) (a .blocks .now) y (places-there (a .n) (a .blocks .now) (c .before .before .before .before .before .before .before .before .before .pre .1 .1 .1 .0))
-    (subst₂ (λ j v. Written (a .n - 1) j (e .place-at .result .1) (set (a .blocks .now) (a .n - 1) v) y) (c .before .before .before .others-in .ensures) (c .before .before .before .before .block-of .ensures) (c .write-many .ensures))
+    (subst₂ (λ j v. Written (e .place-at .result .1) (a .n - 1) j (set (a .blocks .now) (a .n - 1) v) y) (c .before .before .before .others-in .ensures) (c .before .before .before .before .block-of .ensures) (c .write-many .ensures))
 
 pub +write-many-spec : {M : Type 1} → statement M
 +write-many-spec = close μ-write-many λ t. write-many-lts.spec (

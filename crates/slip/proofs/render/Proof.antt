@@ -36,13 +36,18 @@ same-length c = search needs
 
 returns-2 : tie.Need-returns-2
 unfolding parsedAs textOf
-returns-2 c = rendered (c .before .before .before .before .before .before .before .before .before .before .before .before .before .args .input .now) (omega arith) (c .before .before .before .before .before .before .before .parse .ensures .1 ∙ ap (λ p. parsedAs p (c .before .before .before .before .before .before .before .parse .last .1 .0)) (c .before .before .before .before .enum-told .given .1)) (c .before .before .put-refused .ensures)
+returns-2 c =
+    let parse = c .before .before .before .before .before .before .before .parse in
+    rendered (c .before .before .before .before .before .before .before .before .before .before .before .before .before .args .input .now) (omega arith) (parse .ensures .1 ∙ ap (λ p. parsedAs p (parse .last .1 .0)) (c .before .before .before .before .enum-told .given .1)) (c .before .before .put-refused .ensures)
 
 array-share-prefix-counts : tie.Need-array-share-prefix-counts
-array-share-prefix-counts c = omega (arith, c .before .before .before .before .before .parse .ensures .0 _ _ (c .before .before .f .given .1))
+array-share-prefix-counts c = omega (arith, c .before .before .before .before .parse .ensures .0 _ _ (c .before .f .given .1))
 
-slice-aggregate-put-text : tie.Need-slice-aggregate-put-text
-slice-aggregate-put-text c = sym (length-take-le (c .before .before .before .f .given .0 .1 .0) (c .before .before .before .before .before .before .parse .last .1 .0) (omega (arith, c .before .before .before .before .before .before .parse .ensures .0 _ _ (c .before .before .before .f .given .1))))
+slice-aggregate-only-counts : tie.Need-slice-aggregate-only-counts
+slice-aggregate-only-counts c = sym (length-take-le (c .before .before .f .given .0 .1 .0) (c .before .before .before .before .before .parse .last .1 .0) (omega (arith, c .before .before .before .before .before .parse .ensures .0 _ _ (c .before .before .f .given .1))))
+
+only-counts-requires : tie.Need-only-counts-requires
+only-counts-requires c κs = search needs
 
 put-text-requires : tie.Need-put-text-requires
 put-text-requires c κs = search needs
@@ -52,7 +57,9 @@ same-length-2 c = search needs
 
 returns-3 : tie.Need-returns-3
 unfolding parsedAs textOf
-returns-3 c = rendered (c .before .before .before .before .before .before .before .before .before .before .before .before .before .before .before .args .input .now) (omega arith) (c .before .before .before .before .before .before .before .before .before .parse .ensures .1 ∙ ap (λ p. parsedAs p (c .before .before .before .before .before .before .before .before .before .parse .last .1 .0)) (c .before .before .before .before .before .before .f .given .1)) (c .before .before .put-text .ensures)
+returns-3 c =
+    let parse = c .before .before .before .before .before .before .before .before .before .before .parse in
+    rendered (c .before .before .before .before .before .before .before .before .before .before .before .before .before .before .before .before .args .input .now) (omega arith) (parse .ensures .1 ∙ ap (λ p. parsedAs p (parse .last .1 .0)) (c .before .before .before .before .before .before .before .f .given .1)) (rw (c .before .before .before .before .only-counts .ensures) at (c .before .before .put-text .ensures))
 
 pub render-spec : {M : Type 1} → statement M
 render-spec =
@@ -68,7 +75,8 @@ render-spec =
     same-length
     returns-2
     array-share-prefix-counts
-    slice-aggregate-put-text
+    slice-aggregate-only-counts
+    only-counts-requires
     put-text-requires
     same-length-2
     returns-3)

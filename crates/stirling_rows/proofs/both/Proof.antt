@@ -7,6 +7,7 @@ use lib.ListN.{getD}
 use borrow.Author.Needs.{needs}
 use Rattle.numbers.specs.Numbers.{stirlingOf}
 use Rattle.numbers.proofs.Stirlings.{stirling-all, stirling-zero, stirling-one}
+use Rattle.stirling_rows.specs.Stored.{lastRow}
 use Rattle.stirling_rows.specs.Inner.{numbers}
 use Rattle.stirling_rows.proofs.Ends.{all-but-one, few-pairs, few-places}
 use Rattle.stirling_rows.proofs.Tested.{place, there}
@@ -17,7 +18,7 @@ between : (c : tie.Else2) → (2 ≤ c .before .before .args .k) × (c .before .
 between c = (omega (arith, c .before .if1 .left), omega (arith, c .if2 .left))
 
 -- one place before stands the number of one block fewer
-before : (n k : ℕ) → n ≤ 26 → 3 ≤ k → k < n → getD numbers (place n k - 1) 0 ≡ stirlingOf n (k - 1)
+before : (n k : ℕ) → n ≤ lastRow → 3 ≤ k → k < n → getD numbers (place n k - 1) 0 ≡ stirlingOf n (k - 1)
 before n k h some fewer =
     let back : place n k - 1 ≡ place n (k - 1) = omega arith in
     ap (λ i. getD numbers i 0) back ∙ there n (k - 1) h (omega arith) (omega arith)

@@ -5,6 +5,7 @@ use Prim.Native.Nat.{ℕ, suc, _+_, _-_, _≤_}
 use native.Mathlib.Omega.{arith}
 use native.Mathlib.Numerals.{add-one}
 use borrow.Author.Needs.{needs}
+use Rattle.numbers.specs.Limits.{places}
 use Rattle.numbers.specs.Numbers.{stirlingOf}
 use Rattle.numbers.proofs.Stirlings.{stirling-none}
 use Rattle.stirlings.specs.Band.{Row}
@@ -32,7 +33,7 @@ add-w : tie.Need-add-w Inv-loop μ-loop
 add-w c = omega arith
 
 loop-holds : tie.Need-loop-holds Inv-loop μ-loop
-loop-holds c = let a = c .before .before .args in (omega arith, row-of-ones 81 (a .k + 1) refl (omega arith))
+loop-holds c = let a = c .before .before .args in (omega arith, row-of-ones (places + 1) (a .k + 1) refl (omega arith))
 
 next-row-requires : tie.Need-next-row-requires Inv-loop μ-loop
 next-row-requires c κs =

@@ -10,6 +10,7 @@ use borrow.Author.Needs.{needs}
 use borrow.Author.Tests.{lt-ltb}
 use Rattle.numbers.specs.Numbers.{stirlingOf}
 use Rattle.numbers.proofs.Stirlings.{stirling-none}
+use Rattle.stirling_rows.specs.Stored.{lastRow}
 use Rattle.stirlings.proofs.Limits.{small}
 use Rattle.stirlings.proofs.stirling_fits.Statement.{statement}
 use Rattle.stirlings.proofs.stirling_fits.Tie as tie
@@ -17,7 +18,7 @@ use Rattle.stirlings.proofs.stirling_fits.Tie as tie
 none-fit : (n k : ℕ) → n < k → true ≡ ltb (stirlingOf n k) (2 ^ 64)
 none-fit n k h = sym (lt-ltb (stirlingOf n k) (2 ^ 64) (omega (arith, stirling-none n k h)))
 
-few-fit : (n k : ℕ) → n ≤ 26 → true ≡ ltb (stirlingOf n k) (2 ^ 64)
+few-fit : (n k : ℕ) → n ≤ lastRow → true ≡ ltb (stirlingOf n k) (2 ^ 64)
 few-fit n k h = elim (decLt n k) [ yes g ↦ none-fit n k g | no g ↦ sym (small n k h (omega arith)) ]
 
 returns : tie.Need-returns

@@ -10,10 +10,10 @@ use Rattle.anagram_ranks.proofs.ranking.letter_of.Statement.{statement}
 use Rattle.anagram_ranks.proofs.ranking.letter_of.Tie as tie
 
 abbrev Inv-loop : tie.InvT-loop
-Inv-loop left words m rank s₀ a₀ s a = (a < length left) × ((s ≡ total (take (a + 1) left)) × (words * total (take a left) / m ≤ rank))
+Inv-loop rank left words m s₀ a₀ s a = (a < length left) × ((s ≡ total (take (a + 1) left)) × (words * total (take a left) / m ≤ rank))
 
 abbrev μ-loop : tie.MeasureT-loop
-μ-loop left words m rank s₀ a₀ s a = length left - a
+μ-loop rank left words m s₀ a₀ s a = length left - a
 
 -- there is a letter
 some : (c : tie.Start Inv-loop μ-loop) → 0 < length (c .args .left .now)

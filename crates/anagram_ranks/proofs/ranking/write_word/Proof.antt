@@ -9,10 +9,10 @@ use Rattle.anagram_ranks.proofs.ranking.write_word.Statement.{statement
 use Rattle.anagram_ranks.proofs.ranking.write_word.Tie as tie
 
 abbrev Inv-loop : tie.InvT-loop
-Inv-loop left₀ all rank object₀ words₀ rest₀ i₀ left object words rest i = (length object ≡ length object₀) × Written left₀ rank left object words rest i
+Inv-loop rank left₀ all object₀ words₀ rest₀ i₀ left object words rest i = (length object ≡ length object₀) × Written left₀ rank left object words rest i
 
 abbrev μ-loop : tie.MeasureT-loop
-μ-loop left₀ all rank object₀ words₀ rest₀ i₀ left object words rest i = length object - i
+μ-loop rank left₀ all object₀ words₀ rest₀ i₀ left object words rest i = length object - i
 
 loop-holds : tie.Need-loop-holds Inv-loop μ-loop
 loop-holds c = let a = c .before .before .args in let p = c .before .before .pre in (refl, write-start (a .left .now) (a .object .now) (p .1 .1 .0) (p .0 .1) (p .1 .1 .1))

@@ -5,13 +5,14 @@ use Prim.Native.Nat.{_+_, _≤_, _-_}
 use native.Mathlib.Omega.{arith}
 use lib.ListN.{length, drop}
 use borrow.Author.Tests.{le-leb, lt-leb}
+use Rattle.numbers.specs.Limits.{places}
 use Rattle.numbers.specs.Sums.{total}
 use Rattle.numbers.proofs.Totals.{total-drop, total-end}
 use Rattle.counting.proofs.product.within_places.Statement.{statement}
 use Rattle.counting.proofs.product.within_places.Tie as tie
 
 abbrev Inv-loop : tie.InvT-loop
-Inv-loop counts sum₀ i₀ sum i = (i ≤ length counts) × (sum ≤ 80) × (sum + total (drop i counts) ≡ total counts)
+Inv-loop counts sum₀ i₀ sum i = (i ≤ length counts) × (sum ≤ places) × (sum + total (drop i counts) ≡ total counts)
 
 abbrev μ-loop : tie.MeasureT-loop
 μ-loop counts sum₀ i₀ sum i = length counts - i
@@ -29,7 +30,7 @@ add-sum : tie.Need-add-sum Inv-loop μ-loop
 add-sum c = omega (arith, c .before .shared-slice-known2 .given (c .before .before .before .loop .i))
 
 returns : tie.Need-returns Inv-loop μ-loop
-returns c = sym (lt-leb (total (c .before .before .before .before .before .before .args .counts .now)) 80 (omega (arith, total-drop (c .before .before .before .before .before .before .args .counts .now) (c .before .before .before .before .loop .i) (omega arith))))
+returns c = sym (lt-leb (total (c .before .before .before .before .before .before .args .counts .now)) places (omega (arith, total-drop (c .before .before .before .before .before .before .args .counts .now) (c .before .before .before .before .loop .i) (omega arith))))
 
 add-i : tie.Need-add-i Inv-loop μ-loop
 add-i c = omega arith
@@ -41,7 +42,7 @@ loop-again : tie.Need-loop-again Inv-loop μ-loop
 loop-again c = omega (arith, total-drop (c .before .before .before .before .before .before .args .counts .now) (c .before .before .before .before .loop .i) (omega arith))
 
 returns-2 : tie.Need-returns-2 Inv-loop μ-loop
-returns-2 c = sym (le-leb (total (c .before .before .before .args .counts .now)) 80 (omega (arith, total-end (c .before .before .before .args .counts .now) (c .before .loop .i) (omega arith))))
+returns-2 c = sym (le-leb (total (c .before .before .before .args .counts .now)) places (omega (arith, total-end (c .before .before .before .args .counts .now) (c .before .loop .i) (omega arith))))
 
 pub within-places-spec : {M : Type 1} → statement M
 within-places-spec =

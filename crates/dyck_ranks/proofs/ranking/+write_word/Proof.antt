@@ -23,7 +23,7 @@ use Rattle.dyck_ranks.proofs.ranking.+write_word.{statement}
 use Rattle.dyck_ranks.proofs.ranking.+write_word.Tie.{close}
 
 abbrev μ-write-word : Measures 1 write-word-kinds.ps ℕ
-μ-write-word κs a = a .0
+μ-write-word κs a = a .1 .0
 
 abbrev write-word-at : ℕ → In 1 write-word-kinds.ps
 write-word-at t =

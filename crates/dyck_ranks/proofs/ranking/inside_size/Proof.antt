@@ -10,10 +10,10 @@ use Rattle.dyck_ranks.proofs.ranking.inside_size.Statement.{statement}
 use Rattle.dyck_ranks.proofs.ranking.inside_size.Tie as tie
 
 abbrev Inv-loop : tie.InvT-loop
-Inv-loop n rank left₀ j₀ left j = (j ≤ n) × (shorter n j + left ≡ rank)
+Inv-loop rank n left₀ j₀ left j = (j ≤ n) × (shorter n j + left ≡ rank)
 
 abbrev μ-loop : tie.MeasureT-loop
-μ-loop n rank left₀ j₀ left j = n - j
+μ-loop rank n left₀ j₀ left j = n - j
 
 loop-holds : tie.Need-loop-holds Inv-loop μ-loop
 loop-holds c = (omega arith, rw shorter-zero (omega arith))

@@ -1,18 +1,18 @@
--- `reading::row_lengths` meets its contract: after d bytes from the right the table has all rows that start there. The measure is what is left of 80.
+-- `reading::row_lengths` meets its contract: after d bytes from the right the table has all rows that start there. The measure is what is left of the longest word.
 -- Assumes nothing.
 use mathlib.Core.Logic.{inl, inr}
 use Prim.Native.Nat.{_-_, _≤_}
 use native.Mathlib.Omega.{arith}
-use Rattle.numbers.specs.Limits.{places}
+use Rattle.numbers.specs.Limits.{longestObject}
 use Rattle.dyck_words.proofs.RowTable.{Filled, filled-none, filled-more, filled-all}
 use Rattle.dyck_words.proofs.reading.row_lengths.Statement.{statement}
 use Rattle.dyck_words.proofs.reading.row_lengths.Tie as tie
 
 abbrev Inv-loop : tie.InvT-loop
-Inv-loop object rows₀ d₀ rows d = (d ≤ places) × Filled object rows d
+Inv-loop object rows₀ d₀ rows d = (d ≤ longestObject) × Filled object rows d
 
 abbrev μ-loop : tie.MeasureT-loop
-μ-loop object rows₀ d₀ rows d = places - d
+μ-loop object rows₀ d₀ rows d = longestObject - d
 
 loop-holds : tie.Need-loop-holds Inv-loop μ-loop
 loop-holds c = (omega arith, filled-none _)

@@ -1,15 +1,15 @@
--- `families::questions::ask` meets its contract. Where questions 1 to 4 pass the family is allowed, and the others answer.
+-- `families::questions::ask` meets its contract. Where the questions about the family pass it is allowed, and the others answer.
 -- Assumes nothing.
 use mathlib.Core.Path.{sym, _∙_}
 use borrow.Author.Needs.{needs}
 use Rattle.families.specs.Questions.{refusal}
-use Rattle.families.proofs.Asking.{after-pass, after-no}
+use Rattle.families.proofs.QuestionLaws.{after-pass, after-no}
 use Rattle.families.proofs.Verdicts.{verdict, opened}
 use Rattle.families.proofs.questions.ask.Statement.{statement}
 use Rattle.families.proofs.questions.ask.Tie as tie
 
 opening-requires : tie.Need-opening-requires
-opening-requires c κs = tt
+opening-requires c κs = search needs
 
 enum-known-q : tie.Need-enum-known-q
 enum-known-q c = search needs
@@ -30,4 +30,11 @@ returns-2 c = sym (after-no _ _ (verdict (c .before .before .before .opening .en
 
 pub ask-spec : {M : Type 1} → statement M
 ask-spec =
-    tie.close (tie.spec opening-requires enum-known-q enum-told closing-requires returns returns-2)
+    tie.close
+    (tie.spec
+    opening-requires
+    enum-known-q
+    enum-told
+    closing-requires
+    returns
+    returns-2)

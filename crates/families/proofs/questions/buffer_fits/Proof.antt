@@ -2,12 +2,13 @@
 -- Assumes nothing.
 use mathlib.Core.Path.{sym}
 use borrow.Author.Needs.{needs}
-use Rattle.families.proofs.Verdicts.{is-no, is-yes, not-put, is-put}
+use Rattle.families.proofs.QuestionLaws.{not-put, is-put}
+use Rattle.families.proofs.Verdicts.{is-no, is-yes}
 use Rattle.families.proofs.questions.buffer_fits.Statement.{statement}
 use Rattle.families.proofs.questions.buffer_fits.Tie as tie
 
 has-buffer-requires : tie.Need-has-buffer-requires
-has-buffer-requires c κs = tt
+has-buffer-requires c κs = search needs
 
 returns : tie.Need-returns
 returns c = sym (not-put _ 6 _ (is-no (c .before .has-buffer .ensures .1) (c .if1 .taken)))
@@ -20,4 +21,9 @@ returns-2 c = rw (c .object-length .ensures) (sym (is-put _ 6 _ (is-yes (c .befo
 
 pub buffer-fits-spec : {M : Type 1} → statement M
 buffer-fits-spec =
-    tie.close (tie.spec has-buffer-requires returns object-length-requires returns-2)
+    tie.close
+    (tie.spec
+    has-buffer-requires
+    returns
+    object-length-requires
+    returns-2)

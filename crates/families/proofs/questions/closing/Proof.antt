@@ -1,54 +1,57 @@
--- `families::questions::closing` meets its contract. Each test is the next question.
+-- `families::questions::closing` meets its contract. What the count answers stands around 6 and 7.
 -- Assumes nothing.
 use mathlib.Core.Path.{sym, _∙_}
 use borrow.Author.Needs.{needs}
-use Rattle.listings.specs.Calls.{orElse}
-use Rattle.families.proofs.Verdicts.{is-no, is-yes, closing-is}
+use Rattle.families.specs.Questions.{put, closingFor}
+use Rattle.families.proofs.QuestionLaws.{stop}
+use Rattle.families.proofs.Verdicts.{size-told, too-large, below, beyond, between-pass, between-no}
 use Rattle.families.proofs.questions.closing.Statement.{statement}
 use Rattle.families.proofs.questions.closing.Tie as tie
 
-count-fits-requires : tie.Need-count-fits-requires
-count-fits-requires c κs = search needs
+number-fits-requires : tie.Need-number-fits-requires
+number-fits-requires c κs = search needs
+
+buffer-serves-requires : tie.Need-buffer-serves-requires
+buffer-serves-requires c κs = search needs
+
+enum-told : tie.Need-enum-told
+enum-told c = search needs
+
+enum-told-2 : tie.Need-enum-told-2
+enum-told-2 c = search needs
+
+enum-told-3 : tie.Need-enum-told-3
+enum-told-3 c = search needs
+
+or-beyond-requires : tie.Need-or-beyond-requires
+or-beyond-requires c κs = search needs
 
 returns : tie.Need-returns
-unfolding orElse
-returns c = sym (closing-is _ _ _ _ _ ∙ rw (is-no (c .before .count-fits .ensures) (c .if1 .taken)))
-
-buffer-fits-requires : tie.Need-buffer-fits-requires
-buffer-fits-requires c κs = search needs
+unfolding closingFor put
+returns c = sym (stop _ _ (too-large _ _ (size-told (c .before .before .before .number-fits .ensures) (c .enum-told .given .1))))
 
 returns-2 : tie.Need-returns-2
-unfolding orElse
-returns-2 c = sym (closing-is _ _ _ _ _ ∙ rw (is-yes (c .before .before .before .count-fits .ensures) (c .before .before .if1 .left), is-no (c .before .buffer-fits .ensures) (c .if2 .taken)))
-
-holds-requires : tie.Need-holds-requires
-holds-requires c κs = search needs
+unfolding closingFor put
+returns-2 c =
+    let both = below _ _ (size-told (c .before .before .before .number-fits .ensures) (c .enum-told2 .given .1)) in
+    c .before .before .buffer-serves .ensures ∙ sym (between-pass _ _ _ _ (both .0) (both .1))
 
 returns-3 : tie.Need-returns-3
-unfolding orElse
-returns-3 c = sym (closing-is _ _ _ _ _ ∙ rw (is-yes (c .before .before .before .before .before .count-fits .ensures) (c .before .before .before .before .if1 .left), is-yes (c .before .before .before .buffer-fits .ensures) (c .before .before .if2 .left), is-no (c .before .holds .ensures) (c .if3 .taken)))
-
-rank-below-requires : tie.Need-rank-below-requires
-rank-below-requires c κs = (c .before .before .before .before .before .before .before .before .pre, is-yes (c .before .before .before .before .before .count-fits .ensures) (c .before .before .before .before .if1 .left))
-
-returns-4 : tie.Need-returns-4
-unfolding orElse
-returns-4 c = sym (closing-is _ _ _ _ _ ∙ rw (is-yes (c .before .before .before .before .before .before .before .count-fits .ensures) (c .before .before .before .before .before .before .if1 .left), is-yes (c .before .before .before .before .before .buffer-fits .ensures) (c .before .before .before .before .if2 .left), is-yes (c .before .before .before .holds .ensures) (c .before .before .if3 .left), is-no (c .before .rank-below .ensures) (c .if4 .taken)))
-
-returns-5 : tie.Need-returns-5
-unfolding orElse
-returns-5 c = sym (closing-is _ _ _ _ _ ∙ rw (is-yes (c .before .before .before .before .before .before .before .count-fits .ensures) (c .before .before .before .before .before .before .if1 .left), is-yes (c .before .before .before .before .before .buffer-fits .ensures) (c .before .before .before .before .if2 .left), is-yes (c .before .before .before .holds .ensures) (c .before .before .if3 .left), is-yes (c .before .rank-below .ensures) (c .if4 .left)))
+unfolding closingFor put
+returns-3 c =
+    let both = beyond _ _ (size-told (c .before .before .before .before .number-fits .ensures) (c .before .enum-told3 .given .1)) in
+    c .or-beyond .ensures _ (c .before .before .before .buffer-serves .ensures) ∙ sym (between-no _ _ _ _ (both .0) (both .1))
 
 pub closing-spec : {M : Type 1} → statement M
 closing-spec =
     tie.close
     (tie.spec
-    count-fits-requires
+    number-fits-requires
+    buffer-serves-requires
+    enum-told
+    enum-told-2
+    enum-told-3
+    or-beyond-requires
     returns
-    buffer-fits-requires
     returns-2
-    holds-requires
-    returns-3
-    rank-below-requires
-    returns-4
-    returns-5)
+    returns-3)

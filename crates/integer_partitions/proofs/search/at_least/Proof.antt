@@ -5,6 +5,7 @@ use Prim.Native.Nat.{ℕ, suc, _*_, _-_, _≤_, _<_}
 use native.Mathlib.Nat.{mul-le-mul, mul-le-mul-left}
 use native.Mathlib.Omega.{arith}
 use borrow.Author.Needs.{needs}
+use Rattle.numbers.specs.Limits.{places}
 use Rattle.numbers.specs.Numbers.{partsFrom, partitionsOf}
 use Rattle.numbers.proofs.Laws.{floor-shift, too-few}
 use Rattle.integer_partitions.proofs.search.at_least.Statement.{statement}
@@ -15,7 +16,7 @@ sub-off c = search needs
 
 mul-off : tie.Need-mul-off
 mul-off c =
-    let most : c .args .k ≤ 80 = omega arith in
+    let most : c .args .k ≤ places = omega arith in
     let byte : c .args .p - 1 ≤ 256 = omega arith in
     omega (arith, mul-le-mul most byte)
 
@@ -23,17 +24,17 @@ returns : tie.Need-returns
 returns c =
     let a = c .before .args in
     let less : a .p - 1 ≤ a .p = omega arith in
-    sym (too-few (a .k) (a .p) (a .n) (omega (arith, mul-le-mul-left (a .k) less)))
+    sym (too-few (a .p) (a .n) (a .k) (omega (arith, mul-le-mul-left (a .k) less)))
 
 partitions-requires : tie.Need-partitions-requires
 partitions-requires c κs = search needs
 
 -- parts of at least p are as many as parts of any size with the sum that is left
-at-least-one : (k p n : ℕ) → 0 < p → k * (p - 1) ≤ n → partitionsOf (n - k * (p - 1)) k ≡ partsFrom k p n
-at-least-one k p n pos h = let back : suc (p - 1) ≡ p = omega arith in rw (← floor-shift k (p - 1) n h, back)
+at-least-one : (p n k : ℕ) → 0 < p → k * (p - 1) ≤ n → partitionsOf (n - k * (p - 1)) k ≡ partsFrom p n k
+at-least-one p n k pos h = let back : suc (p - 1) ≡ p = omega arith in rw (← floor-shift (p - 1) n k h, back)
 
 returns-2 : tie.Need-returns-2
-returns-2 c = let a = c .before .before .args in c .partitions .ensures ∙ at-least-one (a .k) (a .p) (a .n) (omega arith) (omega arith)
+returns-2 c = let a = c .before .before .args in c .partitions .ensures ∙ at-least-one (a .p) (a .n) (a .k) (omega arith) (omega arith)
 
 pub at-least-spec : {M : Type 1} → statement M
 at-least-spec = tie.close (tie.spec sub-off mul-off returns partitions-requires returns-2)

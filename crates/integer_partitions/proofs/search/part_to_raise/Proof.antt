@@ -8,6 +8,7 @@ use native.Mathlib.Omega.{arith}
 use lib.ListN.{length, getD, take}
 use borrow.Author.Needs.{needs}
 use borrow.Author.Count.{below-more}
+use Rattle.numbers.specs.Limits.{places}
 use Rattle.numbers.specs.Sums.{total}
 use Rattle.listings.specs.Bytes.{Bytes}
 use Rattle.integer_partitions.proofs.Parts.{total-empty, total-take-more, total-split}
@@ -34,7 +35,7 @@ add-if1 c = omega (arith, c .before .shared-slice-known2 .given (c .before .befo
 
 mul-if1 : tie.Need-mul-if1 Inv-loop μ-loop
 mul-if1 c =
-    let most : c .before .before .before .loop .i ≤ 80 = omega arith in
+    let most : c .before .before .before .loop .i ≤ places = omega arith in
     let byte : c .wide .result + 1 ≤ 256 = omega (arith, c .before .shared-slice-known2 .given (c .before .before .before .loop .i)) in
     omega (arith, mul-le-mul most byte)
 

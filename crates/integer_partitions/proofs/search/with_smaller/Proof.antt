@@ -10,7 +10,7 @@ use Rattle.integer_partitions.proofs.search.with_smaller.Statement.{sta
 use Rattle.integer_partitions.proofs.search.with_smaller.Tie as tie
 
 returns : tie.Need-returns
-returns c = let a = c .before .args in omega (arith, ap (λ (p : ℕ). partsFrom (a .k) p (a .n)) (c .if1 .taken))
+returns c = let a = c .before .args in omega (arith, ap (λ (p : ℕ). partsFrom p (a .n) (a .k)) (c .if1 .taken))
 
 at-least-requires : tie.Need-at-least-requires
 at-least-requires c κs = search needs
@@ -21,7 +21,7 @@ at-least-requires-2 c κs = search needs
 sub-result : tie.Need-sub-result
 sub-result c =
     let a = c .before .before .before .args in
-    omega (arith, c .at-least2 .ensures, c .before .at-least .ensures, floor-mono (a .k) (a .n) {f = a .floor} {g = a .p} (omega arith))
+    omega (arith, c .at-least2 .ensures, c .before .at-least .ensures, floor-mono (a .n) (a .k) {f = a .floor} {g = a .p} (omega arith))
 
 returns-2 : tie.Need-returns-2
 returns-2 c = search needs

@@ -7,7 +7,8 @@ use native.Mathlib.Omega.{arith}
 use lib.ListN.{length, getD}
 use borrow.Author.Needs.{needs}
 use Rattle.numbers.specs.Numbers.{choose}
-use Rattle.pascal.specs.Window.{back, Added}
+use Rattle.pascal.specs.Triangle.{lastRow}
+use Rattle.pascal.specs.Window.{width, back, Added}
 use Rattle.pascal.proofs.Windows.{window-up, back-below}
 use Rattle.pascal.proofs.window.climb.Statement.{statement}
 use Rattle.pascal.proofs.window.climb.Tie as tie
@@ -15,9 +16,9 @@ use Rattle.pascal.proofs.window.climb.Tie as tie
 -- w has the window of a row from which `left` more rows lead to row n
 record Reached (n k : ℕ) (w : List ℕ) (left : ℕ) : Type 0 where
   row : ℕ
-  from : 67 ≤ row
+  from : lastRow ≤ row
   up-to : row + left ≡ n
-  long : length w ≡ 14
+  long : length w ≡ width
   entries : (i : ℕ) → i ≤ left → getD w i 0 ≡ back row k i
 
 turn : {n k left : ℕ} {d e : List ℕ} → Reached n k d left → 0 < left → Added d left e → Reached n k e (left - 1)
@@ -51,7 +52,7 @@ sub-left : tie.Need-sub-left Inv-loop μ-loop
 sub-left c = omega arith
 
 loop-holds : tie.Need-loop-holds Inv-loop μ-loop
-loop-holds c = record { row = 67; from = omega arith; up-to = omega arith; long = search needs; entries = λ i h. c .last-row .ensures i (omega arith) }
+loop-holds c = record { row = lastRow; from = omega arith; up-to = omega arith; long = search needs; entries = λ i h. c .last-row .ensures i (omega arith) }
 
 slice-aggregate-add-neighbours : tie.Need-slice-aggregate-add-neighbours Inv-loop μ-loop
 slice-aggregate-add-neighbours c = omega arith

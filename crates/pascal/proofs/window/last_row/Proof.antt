@@ -5,16 +5,17 @@ use Prim.Native.Nat.{ℕ, _≤_, _<_, _-_}
 use native.Mathlib.Omega.{arith}
 use lib.ListN.{length, getD, length-set}
 use borrow.Author.Count.{below-none}
-use Rattle.pascal.specs.Window.{back}
+use Rattle.pascal.specs.Triangle.{lastRow}
+use Rattle.pascal.specs.Window.{width, back}
 use Rattle.pascal.proofs.Stores.{stored-below}
 use Rattle.pascal.proofs.window.last_row.Statement.{statement}
 use Rattle.pascal.proofs.window.last_row.Tie as tie
 
 abbrev Inv-loop : tie.InvT-loop
-Inv-loop table k w₀ i₀ w i = (i ≤ 14) × (length w ≡ 14) × ((j : ℕ) → j < i → getD w j 0 ≡ back 67 k j)
+Inv-loop table k w₀ i₀ w i = (i ≤ width) × (length w ≡ width) × ((j : ℕ) → j < i → getD w j 0 ≡ back lastRow k j)
 
 abbrev μ-loop : tie.MeasureT-loop
-μ-loop table k w₀ i₀ w i = 14 - i
+μ-loop table k w₀ i₀ w i = width - i
 
 loop-holds : tie.Need-loop-holds Inv-loop μ-loop
 loop-holds c = (omega arith, refl, below-none _)
@@ -36,7 +37,7 @@ loop-less c = omega arith
 
 loop-again : tie.Need-loop-again Inv-loop μ-loop
 loop-again c =
-    (omega arith, simp length-set (c .before .before .loop .inv .1), stored-below (λ j x. x ≡ back 67 (c .before .before .before .args .k) j) (c .before .before .loop .w) _ _ (omega arith) (c .before-place .ensures) (c .before .before .loop .inv .2))
+    (omega arith, simp length-set (c .before .before .loop .inv .1), stored-below (λ j x. x ≡ back lastRow (c .before .before .before .args .k) j) (c .before .before .loop .w) _ _ (omega arith) (c .before-place .ensures) (c .before .before .loop .inv .2))
 
 returns : tie.Need-returns Inv-loop μ-loop
 returns c = λ i h. c .before .loop .inv .2 i (omega arith)

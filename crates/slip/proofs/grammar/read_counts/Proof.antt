@@ -7,10 +7,11 @@ use native.Mathlib.Omega.{arith}
 use lib.Seq.{take-all}
 use lib.ListN.{length, take, drop, length-set}
 use borrow.Author.Needs.{needs}
+use Rattle.columns.specs.Fields.{fieldWidth}
+use Rattle.columns.specs.Writing.{valueAs}
 use Rattle.slip.specs.Grammar.{fields, handedOn}
 use Rattle.slip.specs.Reading.{countsAs}
-use Rattle.columns.specs.Writing.{valueAs}
-use Rattle.slip.proofs.LineLaws.{after, field-at, counts-none, counts-bad, counts-more, counts-all}
+use Rattle.slip.proofs.LineLaws.{after, counts-none, counts-bad, counts-more, counts-all}
 use Rattle.slip.proofs.grammar.read_counts.Statement.{statement}
 use Rattle.slip.proofs.grammar.read_counts.Tie as tie
 
@@ -18,7 +19,7 @@ abbrev Inv-loop : tie.InvT-loop
 Inv-loop line counts₀ i₀ counts i =
     (i ≤ length counts₀)
     × ((length counts ≡ length counts₀)
-    × (handedOn (fields (length counts₀) line) ≡ after (take i counts) (handedOn (fields (length counts₀ - i) (drop (4 * i) line)))))
+    × (handedOn (fields (length counts₀) line) ≡ after (take i counts) (handedOn (fields (length counts₀ - i) (drop (fieldWidth * i) line)))))
 
 abbrev μ-loop : tie.MeasureT-loop
 μ-loop line counts₀ i₀ counts i = length counts₀ - i
@@ -26,23 +27,8 @@ abbrev μ-loop : tie.MeasureT-loop
 loop-holds : tie.Need-loop-holds Inv-loop μ-loop
 loop-holds c = (omega arith, (refl, counts-none (c .before .before .args .line .now) (length (c .before .before .args .counts .now))))
 
-mul-at : tie.Need-mul-at Inv-loop μ-loop
-mul-at c = search needs
-
-add-end : tie.Need-add-end Inv-loop μ-loop
-add-end c = search needs
-
-sub-field : tie.Need-sub-field Inv-loop μ-loop
-sub-field c = search needs
-
-part-field-start : tie.Need-part-field-start Inv-loop μ-loop
-part-field-start c = search needs
-
-part-field-end : tie.Need-part-field-end Inv-loop μ-loop
-part-field-end c = search needs
-
-field-requires : tie.Need-field-requires Inv-loop μ-loop
-field-requires c κs = search needs
+number-at-requires : tie.Need-number-at-requires Inv-loop μ-loop
+number-at-requires c κs = search needs
 
 enum-known-v : tie.Need-enum-known-v Inv-loop μ-loop
 enum-known-v c = search needs
@@ -56,10 +42,9 @@ same-length c = search needs
 returns : tie.Need-returns Inv-loop μ-loop
 unfolding countsAs valueAs
 returns c =
-    let l = c .before .before .before .before .before .loop in
-    let x = c .before .before .before .before .before .before .before .before .args .line .now in
-    l .inv .1 .1 ∙ counts-bad (take (l .i) (l .counts)) x (length (c .before .before .before .before .before .before .before .before .args .counts .now)) (l .i) (omega arith)
-    (sym (field-at x (4 * l .i)) ∙ sym (c .before .before .field .ensures) ∙ ap valueAs (c .enum-told .given .1))
+    let l = c .before .before .before .before .loop in
+    let a = c .before .before .before .before .before .before .before .args in
+    l .inv .1 .1 ∙ counts-bad (take (l .i) (l .counts)) (a .line .now) (length (a .counts .now)) (l .i) (omega arith) (sym (c .before .before .number-at .ensures) ∙ ap valueAs (c .enum-told .given .1))
 
 at-most-255-requires : tie.Need-at-most-255-requires Inv-loop μ-loop
 at-most-255-requires c κs = search needs
@@ -76,14 +61,14 @@ loop-less c = search needs
 loop-again : tie.Need-loop-again Inv-loop μ-loop
 unfolding valueAs
 loop-again c =
-    let l = c .before .before .before .before .before .before .before .loop in
-    let a = c .before .before .before .before .before .before .before .before .before .before .args in (
+    let l = c .before .before .before .before .before .before .loop in
+    let a = c .before .before .before .before .before .before .before .before .before .args in (
       omega arith,
       (
         simp length-set (l .inv .1 .0),
         l .inv .1 .1
             ∙ counts-more (l .counts) (a .line .now) (length (a .counts .now)) (l .i) (c .before .before .v .given .0 .0) (c .at-most-255 .result) (omega arith) (omega arith)
-            (sym (field-at (a .line .now) (4 * l .i)) ∙ sym (c .before .before .before .before .field .ensures) ∙ ap valueAs (c .before .before .v .given .1))
+            (sym (c .before .before .before .before .number-at .ensures) ∙ ap valueAs (c .before .before .v .given .1))
             (c .at-most-255 .ensures),
       ),
     )
@@ -95,7 +80,8 @@ returns-2 : tie.Need-returns-2 Inv-loop μ-loop
 unfolding countsAs
 returns-2 c =
     let l = c .before .loop in
-    l .inv .1 .1 ∙ counts-all (take (l .i) (l .counts)) (c .before .before .before .before .args .line .now) (length (c .before .before .before .before .args .counts .now)) (l .i) (omega arith) ∙ ap some (take-all (l .i) (l .counts) (omega arith))
+    let a = c .before .before .before .before .args in
+    l .inv .1 .1 ∙ counts-all (take (l .i) (l .counts)) (a .line .now) (length (a .counts .now)) (l .i) (omega arith) ∙ ap some (take-all (l .i) (l .counts) (omega arith))
 
 pub read-counts-spec : {M : Type 1} → statement M
 read-counts-spec =
@@ -104,12 +90,7 @@ read-counts-spec =
     Inv-loop
     μ-loop
     loop-holds
-    mul-at
-    add-end
-    sub-field
-    part-field-start
-    part-field-end
-    field-requires
+    number-at-requires
     enum-known-v
     enum-told
     same-length

@@ -10,6 +10,7 @@ use lib.Seq.{length-take-le, take-at}
 use borrow.Author.Needs.{needs}
 use Rattle.slip.specs.Grammar.{fields, handedOn, withCounts}
 use Rattle.slip.specs.Reading.{countsAs, parsedAs}
+use Rattle.slip.specs.Sizes.{mostCounts}
 use Rattle.slip.proofs.LineLaws.{line-absent, line-unasked, line-present, line-width, line-end, line-fields, by-line, at-most, at-most-malformed}
 use Rattle.slip.proofs.grammar.second_line.Statement.{statement}
 use Rattle.slip.proofs.grammar.second_line.Tie as tie
@@ -23,7 +24,7 @@ returns c =
     let a = c .before .before .before .before .before .args in
     let m = c .before .before .how-many .result in
     let x = a .rest .now in
-    (at-most (a .f) 0 9999 (omega arith), by-line (a .f) x (c .before .before .how-many .ensures .1) (line-absent m x (c .before .if1 .taken) (c .if2 .taken)) refl)
+    (at-most (a .f) 0 mostCounts (omega arith), by-line (a .f) x (c .before .before .how-many .ensures .1) (line-absent m x (c .before .if1 .taken) (c .if2 .taken)) refl)
 
 returns-2 : tie.Need-returns-2
 unfolding handedOn withCounts parsedAs
@@ -31,7 +32,7 @@ returns-2 c =
     let a = c .before .before .before .before .before .args in
     let m = c .before .before .how-many .result in
     let x = a .rest .now in
-    (at-most-malformed 9999, by-line (a .f) x (c .before .before .how-many .ensures .1) (line-unasked m x (c .before .if1 .taken) (c .if2 .left)) refl)
+    (at-most-malformed mostCounts, by-line (a .f) x (c .before .before .how-many .ensures .1) (line-unasked m x (c .before .if1 .taken) (c .if2 .left)) refl)
 
 mul-end : tie.Need-mul-end
 mul-end c = omega arith
@@ -45,7 +46,7 @@ returns-3 c =
     let a = c .before .before .before .before .before .args in
     let m = c .before .before .how-many .result in
     let x = a .rest .now in
-    (at-most-malformed 9999, by-line (a .f) x (c .before .before .how-many .ensures .1) (line-present m x (c .before .if1 .left) ∙ line-width m x (c .if3 .taken)) refl)
+    (at-most-malformed mostCounts, by-line (a .f) x (c .before .before .how-many .ensures .1) (line-present m x (c .before .if1 .left) ∙ line-width m x (c .if3 .taken)) refl)
 
 shared-slice-read-if4 : tie.Need-shared-slice-read-if4
 shared-slice-read-if4 c = search needs
@@ -56,7 +57,7 @@ returns-4 c =
     let a = c .before .before .before .before .before .before .before .args in
     let m = c .before .before .before .before .how-many .result in
     let x = a .rest .now in
-    (at-most-malformed 9999, by-line (a .f) x (c .before .before .before .before .how-many .ensures .1) (line-present m x (c .before .before .before .if1 .left) ∙ line-end m x (c .if4 .taken)) refl)
+    (at-most-malformed mostCounts, by-line (a .f) x (c .before .before .before .before .how-many .ensures .1) (line-present m x (c .before .before .before .if1 .left) ∙ line-end m x (c .if4 .taken)) refl)
 
 slice-relend-prefix-read-counts : tie.Need-slice-relend-prefix-read-counts
 slice-relend-prefix-read-counts c = omega arith
@@ -84,7 +85,7 @@ returns-5 c =
     let m = c .before .before .before .before .before .before .before .before .before .how-many .result in
     let x = a .rest .now in
     let ys = c .before .before .before .read-counts .last .1 .0 in (
-      at-most (a .f) m 9999 (omega arith),
+      at-most (a .f) m mostCounts (omega arith),
       by-line (a .f) x (c .before .before .before .before .before .before .before .before .before .how-many .ensures .1) (line-present m x (c .before .before .before .before .before .before .before .before .if1 .left) ∙ line-fields m x (c .before .before .before .before .before .before .before .if3 .left) (c .before .before .before .before .before .if4 .left))
           (ap (withCounts (a .f)) (read (c .before .before .before) ∙ ap (λ (b : Bool). countsAs b ys) (c .if5 .taken) ∙ ap some (sym (take-at ys (drop m (a .counts .now)) m (c .before .before .before .read-counts .kept .1 .0 ∙ lent (c .before .before .before .before)))))),
     )
@@ -99,7 +100,7 @@ returns-6 c =
     let m = c .before .before .before .before .before .before .before .before .before .how-many .result in
     let x = a .rest .now in
     let ys = c .before .before .before .read-counts .last .1 .0 in (
-      at-most-malformed 9999,
+      at-most-malformed mostCounts,
       by-line (a .f) x (c .before .before .before .before .before .before .before .before .before .how-many .ensures .1) (line-present m x (c .before .before .before .before .before .before .before .before .if1 .left) ∙ line-fields m x (c .before .before .before .before .before .before .before .if3 .left) (c .before .before .before .before .before .if4 .left))
           (ap (withCounts (a .f)) (read (c .before .before .before) ∙ ap (λ (b : Bool). countsAs b ys) (c .if5 .left))),
     )

@@ -1,13 +1,16 @@
--- `slip::listing::put_body` meets its contract: the length of an object is told, and within 80 places.
+-- `slip::listing::put_body` meets its contract: the length of an object is told, and within the room for the longest.
 -- Assumes nothing.
 use mathlib.Core.Path.{_≡_, sym, _∙_}
+use mathlib.Core.List.{map}
 use Prim.Native.Nat.{ℕ}
 use native.Mathlib.Omega.{arith}
 use lib.ListN.{length, take, replicate}
 use lib.Seq.{length-take-le}
-use Rattle.families.specs.Table.{lent}
-use Rattle.slip.proofs.Listed.{length-known, length-not-refused}
+use denote.Ref.{now}
 use borrow.Author.Needs.{needs}
+use Rattle.numbers.specs.Limits.{longestObject}
+use Rattle.families.specs.Table.{lent}
+use Rattle.families.proofs.Going.{Told, length-known, length-not-refused}
 use Rattle.slip.proofs.listing.put_body.Statement.{statement}
 use Rattle.slip.proofs.listing.put_body.Tie as tie
 
@@ -21,25 +24,25 @@ enum-told : tie.Need-enum-told
 enum-told c = search needs
 
 returns : tie.Need-returns
-returns c = absurd (length-not-refused (c .before .before .before .before .before .args .f) (lent (c .before .before .before .before .before .args .counts .now)) (c .before .before .before .before .before .pre .1) (rw (c .enum-told .given .1) at (c .before .before .object-length .ensures)))
+returns c =
+    let a = c .before .before .before .before .args in
+    absurd (length-not-refused (a .f) (lent (map now (a .lists))) (c .before .before .before .before .pre .1) (rw (c .enum-told .given .1) at (c .before .before .object-length .ensures)))
+
+-- the length that was told
+told : (c : tie.After-known-told) → Told (c .before .before .before .before .before .args .f) (lent (map now (c .before .before .before .before .before .args .lists))) (c .before .size .given .0 .0)
+told c = let a = c .before .before .before .before .before .args in length-known (a .f) (lent (map now (a .lists))) (rw (c .before .size .given .1) at (c .before .before .before .object-length .ensures))
 
 array-borrow-prefix-space : tie.Need-array-borrow-prefix-space
-array-borrow-prefix-space c =
-    let a = c .before .before .before .before .before .before .before .args in
-    omega (arith, length-known (a .f) (lent (a .counts .now)) (c .before .before .before .before .before .before .before .pre .1) (rw (c .before .before .size .given .1) at (c .before .before .before .before .object-length .ensures)) .1)
+array-borrow-prefix-space c = omega (arith, told (c .before) .within)
 
 slice-aggregate-put-listing : tie.Need-slice-aggregate-put-listing
-slice-aggregate-put-listing c =
-    let a = c .before .before .before .before .before .before .before .before .args in
-    sym (length-take-le (c .before .before .before .size .given .0 .0) (replicate {A = ℕ} 80 0) (length-known (a .f) (lent (a .counts .now)) (c .before .before .before .before .before .before .before .before .pre .1) (rw (c .before .before .before .size .given .1) at (c .before .before .before .before .before .object-length .ensures)) .1))
+slice-aggregate-put-listing c = sym (length-take-le (c .before .before .before .size .given .0 .0) (replicate {A = ℕ} longestObject 0) (told (c .before .before) .within))
 
 put-listing-requires : tie.Need-put-listing-requires
 put-listing-requires c κs =
-    let a = c .before .before .before .before .before .before .before .before .args in
     let n = c .before .before .before .size .given .0 .0 in
-    let k = length-known (a .f) (lent (a .counts .now)) (c .before .before .before .before .before .before .before .before .pre .1) (rw (c .before .before .before .size .given .1) at (c .before .before .before .before .before .object-length .ensures)) in
-    let e : length (take n (replicate {A = ℕ} 80 0)) ≡ n = length-take-le n (replicate {A = ℕ} 80 0) (k .1) in
-    (search needs, (rw e (k .1), (e ∙ k .0, c .before .before .before .before .before .before .before .before .pre .1)))
+    let e : length (take n (replicate {A = ℕ} longestObject 0)) ≡ n = length-take-le n (replicate {A = ℕ} longestObject 0) (told (c .before .before) .within) in
+    (search needs, (rw e (told (c .before .before) .within), (e ∙ told (c .before .before) .long, told (c .before .before) .admitted)))
 
 same-length : tie.Need-same-length
 same-length c = search needs

@@ -8,6 +8,7 @@ use native.Mathlib.Omega.{arith}
 use lib.ListN.{length, take}
 use lib.Seq.{take-all}
 use Rattle.columns.specs.Columns.{column}
+use Rattle.columns.specs.Fields.{fieldWidth}
 use Rattle.columns.specs.Writing.{Wrote}
 use Rattle.slip.proofs.Lines.{bytes-more}
 use Rattle.columns.proofs.Writes.{wrote-nothing, then}
@@ -16,7 +17,7 @@ use Rattle.slip.proofs.listing.put_bytes.Tie as tie
 
 abbrev Inv-loop : tie.InvT-loop
 Inv-loop out₀ at object end₀ i₀ out end i =
-    (i ≤ length object) × ((length out ≡ length out₀) × ((end ≡ at + 4 * i) × Wrote out₀ at out end (flatMap (column 4) (take i object))))
+    (i ≤ length object) × ((length out ≡ length out₀) × ((end ≡ at + fieldWidth * i) × Wrote out₀ at out end (flatMap (column fieldWidth) (take i object))))
 
 abbrev μ-loop : tie.MeasureT-loop
 μ-loop out₀ at object end₀ i₀ out end i = length object - i
@@ -44,7 +45,7 @@ loop-again : tie.Need-loop-again Inv-loop μ-loop
 loop-again c =
     let l = c .before .before .before .before .before .before .loop in
     let x = c .before .before .before .before .before .before .before .before .before .args .object .now in
-    (omega arith, (search needs, (omega arith, rw (bytes-more (column 4) x (l .i) (omega arith)) (then (l .inv .1 .1 .1) (c .before .before .put-column .ensures .1)))))
+    (omega arith, (search needs, (omega arith, rw (bytes-more (column fieldWidth) x (l .i) (omega arith)) (then (l .inv .1 .1 .1) (c .before .before .put-column .ensures .1)))))
 
 same-length : tie.Need-same-length Inv-loop μ-loop
 same-length c = search needs

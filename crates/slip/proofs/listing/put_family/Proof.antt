@@ -3,7 +3,7 @@
 use native.Mathlib.Omega.{arith}
 use mathlib.Core.List.{append-assoc}
 use Rattle.columns.proofs.Writes.{then}
-use Rattle.slip.specs.Writing.{familyColumns}
+use Rattle.slip.specs.Text.{familyColumns}
 use borrow.Author.Needs.{needs}
 use Rattle.slip.proofs.listing.put_family.Statement.{statement}
 use Rattle.slip.proofs.listing.put_family.Tie as tie

@@ -1,10 +1,12 @@
 -- `slip::listing::put_listing` meets its contract: FIRST writes the object at place 0, or there is none and END is all.
 -- Assumes nothing.
-use Rattle.families.specs.Table.{lent}
-use Rattle.families.specs.Listing.{listing}
-use Rattle.slip.proofs.Lines.{nothing-listed}
-use Rattle.slip.proofs.Listed.{not-written, starts, starts-none}
+use mathlib.Core.List.{map}
+use denote.Ref.{now}
 use borrow.Author.Needs.{needs}
+use Rattle.families.specs.Table.{lent}
+use Rattle.families.specs.Families.{listing}
+use Rattle.families.proofs.Going.{not-written, starts, starts-none}
+use Rattle.slip.proofs.Lines.{nothing-listed}
 use Rattle.slip.proofs.listing.put_listing.Statement.{statement}
 use Rattle.slip.proofs.listing.put_listing.Tie as tie
 
@@ -17,8 +19,8 @@ enum-told c = search needs
 enum-told-2 : tie.Need-enum-told-2
 enum-told-2 c = search needs
 
-put-end-requires : tie.Need-put-end-requires
-put-end-requires c κs = search needs
+put-last-requires : tie.Need-put-last-requires
+put-last-requires c κs = search needs
 
 same-length : tie.Need-same-length
 same-length c = search needs
@@ -28,14 +30,14 @@ same-length-2 c = search needs
 
 returns : tie.Need-returns
 returns c =
-    let a = c .before .before .before .before .before .before .before .before .before .before .before .before .before .args in
-    let b = lent (a .counts .now) in
-    nothing-listed (listing (a .f) b) (starts-none (a .f) b (a .object .now) (c .before .before .before .before .before .before .before .before .before .before .before .before .before .pre .1 .1 .1) (c .before .before .before .before .before .before .before .before .before .before .before .before .before .pre .1 .1 .0) not-written (rw (c .before .before .before .before .enum-told2 .given .1) at (c .before .before .before .before .before .before .before .before .first .ensures))) (c .before .before .put-end .ensures)
+    let a = c .before .before .before .before .before .before .before .before .before .before .before .before .args in
+    let b = lent (map now (a .lists)) in
+    nothing-listed (listing (a .f) b) (starts-none (a .f) b (a .object .now) (c .before .before .before .before .before .before .before .before .before .before .before .before .pre .1 .1 .1) (c .before .before .before .before .before .before .before .before .before .before .before .before .pre .1 .1 .0) not-written (rw (c .before .before .before .before .enum-told2 .given .1) at (c .before .before .before .before .before .before .before .before .first .ensures))) (c .before .before .put-last .ensures)
 
 put-objects-requires : tie.Need-put-objects-requires
 put-objects-requires c κs =
-    let a = c .before .before .before .before .before .before .before .before .before .before .before .args in
-    (search needs, (search needs, starts (a .f) (lent (a .counts .now)) (a .object .now) (rw (c .before .before .enum-told .given .1) at (c .before .before .before .before .before .before .first .ensures))))
+    let a = c .before .before .before .before .before .before .before .before .before .before .args in
+    (search needs, (search needs, starts (a .f) (lent (map now (a .lists))) (a .object .now) (rw (c .before .before .enum-told .given .1) at (c .before .before .before .before .before .before .first .ensures))))
 
 same-length-3 : tie.Need-same-length-3
 same-length-3 c = search needs
@@ -53,7 +55,7 @@ put-listing-spec =
     first-requires
     enum-told
     enum-told-2
-    put-end-requires
+    put-last-requires
     same-length
     same-length-2
     returns

@@ -1,9 +1,12 @@
 -- `slip::listing::put_text` meets its contract, by what COUNT answers.
 -- Assumes nothing.
-use Rattle.families.specs.Table.{lent}
-use Rattle.slip.specs.Text.{said}
-use Rattle.slip.proofs.Listed.{counted-allowed, many-allowed, text-is}
+use mathlib.Core.List.{map}
+use denote.Ref.{now}
 use borrow.Author.Needs.{needs}
+use Rattle.families.specs.Table.{lent}
+use Rattle.families.proofs.Going.{counted-allowed, many-allowed}
+use Rattle.slip.specs.Text.{said}
+use Rattle.slip.proofs.Lines.{text-is}
 use Rattle.slip.proofs.listing.put_text.Statement.{statement}
 use Rattle.slip.proofs.listing.put_text.Tie as tie
 
@@ -15,8 +18,8 @@ enum-known-n c = search needs
 
 put-counted-requires : tie.Need-put-counted-requires
 put-counted-requires c κs =
-    let a = c .before .before .before .before .before .before .before .args in
-    (search needs, counted-allowed (a .f) (lent (a .counts .now)) (rw (c .before .before .n .given .1) at (c .before .before .before .before .count .ensures)))
+    let a = c .before .before .before .before .before .before .args in
+    (search needs, counted-allowed (a .f) (lent (map now (a .lists))) (rw (c .before .before .n .given .1) at (c .before .before .before .before .count .ensures)))
 
 enum-known-q : tie.Need-enum-known-q
 enum-known-q c = search needs
@@ -26,22 +29,22 @@ cast-put-uncounted c = search needs
 
 put-uncounted-requires : tie.Need-put-uncounted-requires
 put-uncounted-requires c κs =
-    let a = c .before .before .before .before .before .before .before .args in
-    (search needs, λ e. many-allowed (a .f) (lent (a .counts .now)) (rw e at (rw (c .before .before .q .given .1) at (c .before .before .before .before .count .ensures))))
+    let a = c .before .before .before .before .before .before .args in
+    (search needs, λ e. many-allowed (a .f) (lent (map now (a .lists))) (rw e at (rw (c .before .before .q .given .1) at (c .before .before .before .before .count .ensures))))
 
 same-length : tie.Need-same-length
 same-length c = search needs
 
 returns : tie.Need-returns
 unfolding said
-returns c = rw (text-is (c .before .before .before .before .before .before .before .before .before .before .args .f) (c .before .before .before .before .before .before .before .before .before .before .args .counts .now) (rw (c .before .before .before .before .before .n .given .1) at (c .before .before .before .before .before .before .before .count .ensures))) (c .before .before .put-counted .ensures)
+returns c = rw (text-is (c .before .before .before .before .before .before .before .before .before .args .f) (lent (map now (c .before .before .before .before .before .before .before .before .before .args .lists))) (rw (c .before .before .before .before .before .n .given .1) at (c .before .before .before .before .before .before .before .count .ensures))) (c .before .before .put-counted .ensures)
 
 same-length-2 : tie.Need-same-length-2
 same-length-2 c = search needs
 
 returns-2 : tie.Need-returns-2
 unfolding said
-returns-2 c = rw (text-is (c .before .before .before .before .before .before .before .before .before .before .args .f) (c .before .before .before .before .before .before .before .before .before .before .args .counts .now) (rw (c .before .before .before .before .before .q .given .1) at (c .before .before .before .before .before .before .before .count .ensures))) (c .before .before .put-uncounted .ensures)
+returns-2 c = rw (text-is (c .before .before .before .before .before .before .before .before .before .args .f) (lent (map now (c .before .before .before .before .before .before .before .before .before .args .lists))) (rw (c .before .before .before .before .before .q .given .1) at (c .before .before .before .before .before .before .before .count .ensures))) (c .before .before .put-uncounted .ensures)
 
 pub put-text-spec : {M : Type 1} → statement M
 put-text-spec =

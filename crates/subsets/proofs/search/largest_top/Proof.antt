@@ -14,10 +14,10 @@ some-left zero k v h less = absurd (omega (arith, choose-none zero k h))
 some-left (suc m) k v h less = omega arith
 
 abbrev Inv-loop : tie.InvT-loop
-Inv-loop n k rank m₀ m = (m ≤ n) × (rank < choose m k)
+Inv-loop rank n k m₀ m = (m ≤ n) × (rank < choose m k)
 
 abbrev μ-loop : tie.MeasureT-loop
-μ-loop n k rank m₀ m = m
+μ-loop rank n k m₀ m = m
 
 -- before a turn
 left : (c : tie.At-loop Inv-loop μ-loop) → 1 ≤ c .loop .m

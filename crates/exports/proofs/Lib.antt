@@ -1,2 +1,0 @@
--- The laws that carry an answer of `families` to the numbers of an exported call.
-pub mod Coded

@@ -1,2 +1,0 @@
--- What a reader must believe of the exported calls: which number stands for which answer.
-pub mod Codes

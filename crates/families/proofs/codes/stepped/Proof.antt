@@ -1,0 +1,30 @@
+-- `families::codes::stepped` meets its contract: each arm is a line of `codeOf`.
+-- Assumes nothing.
+use Rattle.families.specs.Codes.{codeOf}
+use borrow.Author.Needs.{needs}
+use Rattle.families.proofs.codes.stepped.Statement.{statement}
+use Rattle.families.proofs.codes.stepped.Tie as tie
+
+enum-told : tie.Need-enum-told
+enum-told c = search needs
+
+enum-told-2 : tie.Need-enum-told-2
+enum-told-2 c = search needs
+
+enum-known-s : tie.Need-enum-known-s
+enum-known-s c = search needs
+
+returns : tie.Need-returns
+unfolding codeOf
+returns c = search needs
+
+returns-2 : tie.Need-returns-2
+unfolding codeOf
+returns-2 c = search needs
+
+returns-3 : tie.Need-returns-3
+unfolding codeOf
+returns-3 c = search needs
+
+pub stepped-spec : {M : Type 1} → statement M
+stepped-spec = tie.close (tie.spec enum-told enum-told-2 enum-known-s returns returns-2 returns-3)

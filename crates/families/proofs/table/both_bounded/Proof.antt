@@ -1,0 +1,15 @@
+-- `families::table::both_bounded` meets its contract. Its two tests are the definition's.
+-- Assumes nothing.
+use borrow.Author.Tests.{le-leb, lt-leb}
+use Rattle.numbers.specs.Limits.{places}
+use Rattle.families.proofs.table.both_bounded.Statement.{statement}
+use Rattle.families.proofs.table.both_bounded.Tie as tie
+
+returns : tie.Need-returns
+returns c = rw (le-leb (c .before .args .n) places (c .if1 .taken))
+
+returns-2 : tie.Need-returns-2
+returns-2 c = rw (lt-leb (c .before .args .n) places (c .if1 .left))
+
+pub both-bounded-spec : {M : Type 1} → statement M
+both-bounded-spec = tie.close (tie.spec returns returns-2)

@@ -1,0 +1,51 @@
+-- How many objects are listed at most, and how long the lines, the longest slip and the longest text are.
+-- Assumes nothing.
+use Prim.Native.Nat.{ℕ, _+_, _*_}
+use Rattle.numbers.specs.Limits.{longestObject}
+use Rattle.columns.specs.Fields.{fieldWidth, largestField}
+
+-- "the count in 20", "rank in 20 columns", "the line END, right-justified in 20 columns"
+abbrev pub countWidth : ℕ
+countWidth = 20
+
+-- a line of m fields, and its newline
+abbrev pub lineWidth : ℕ → ℕ
+lineWidth m = fieldWidth * m + 1
+
+-- "a second line of n counts", where n is a field itself
+abbrev pub mostCounts : ℕ
+mostCounts = largestField
+
+-- the longest slip: its three numbers, and the longest second line
+abbrev pub longestSlip : ℕ
+longestSlip = lineWidth 3 + lineWidth mostCounts
+
+-- "1,000 are listed"
+abbrev pub listedAtMost : ℕ
+listedAtMost = 1000
+
+-- "kind, n, k in 4 columns each and the count in 20"
+abbrev pub familyWidth : ℕ
+familyWidth = fieldWidth * 3
+
+abbrev pub firstLineWidth : ℕ
+firstLineWidth = familyWidth + (countWidth + 1)
+
+-- "rank in 20 columns, each byte in 4", for an object of so many bytes
+abbrev pub objectLineWidth : ℕ → ℕ
+objectLineWidth m = countWidth + (fieldWidth * m + 1)
+
+abbrev pub lastLineWidth : ℕ
+lastLineWidth = countWidth + 1
+
+-- "REFUSED and the number in 4 columns"
+abbrev pub refusedWidth : ℕ
+refusedWidth = 7 + (fieldWidth + 1)
+
+-- the longest text behind the first line
+abbrev pub longestBody : ℕ
+longestBody = objectLineWidth longestObject * listedAtMost + lastLineWidth
+
+-- the longest text
+abbrev pub largest : ℕ
+largest = firstLineWidth + longestBody

@@ -1,0 +1,2 @@
+-- What a count of a part comes to.
+mod Parts

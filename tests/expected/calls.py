@@ -1,0 +1,221 @@
+#!/usr/bin/env python3
+"""Writes the cases of the program `test_calls`, crates/test_calls/data/, and what it is to print, crates/test_calls/stdout. The head of
+crates/test_calls/src/main.rt has the form of a case and the letters. The library isn't run.
+
+    python3 tests/expected/calls.py"""
+from itertools import product
+
+from families import BRANCHES, FITS, PLACES, Filtered, Ranks, family, length, name, refusal
+
+CALLS = {"c": "COUNT", "r": "RANK", "f": "FIRST", "l": "LAST", "n": "NEXT", "p": "PREVIOUS", "u": "UNRANK"}
+# how a walk begins and goes on, and how many objects it meets at most
+WALKS = {
+    "w": ("FIRST", "NEXT", None),
+    "b": ("LAST", "PREVIOUS", None),
+    "t": ("UNRANK", "UNRANK", None),
+    ">": ("FIRST", "NEXT", 300),
+    "<": ("LAST", "PREVIOUS", 300),
+    "a": ("FIRST", "NEXT", None),
+    "z": ("LAST", "PREVIOUS", None),
+}
+OBJECT = "written", "stepped"
+
+
+def words(numbers):
+    return "".join(f" {b}" for b in numbers)
+
+
+def digest(objects):
+    total = 0
+    for x in objects:
+        for b in (*x, 300):
+            total = (total * 257 + b + 1) % 1000003
+    return total
+
+
+class Buffer:
+    """The lent bytes, which the calls change as the marker says."""
+
+    def __init__(self, f, listing, x):
+        self.f, self.listing, self.x = f, listing, tuple(x)
+
+    def call(self, call, rank=0):
+        no = refusal(call, self.f, self.x, rank)
+        if no:
+            return f"refused {no}"
+        if call == "COUNT":
+            return str(self.listing.count())
+        if call == "RANK":
+            return str(self.listing.rank(self.x))
+        last = self.listing.count() - 1
+        if call in ("NEXT", "PREVIOUS"):
+            at = self.listing.rank(self.x)
+            if at == (last if call == "NEXT" else 0):
+                return "END"
+            self.x = self.listing.object(at + 1 if call == "NEXT" else at - 1)
+            return "stepped"
+        self.x = self.listing.object({"FIRST": 0, "LAST": last, "UNRANK": rank}[call])
+        return "written"
+
+    def walk(self, letter):
+        """The answer, and the objects met."""
+        start, step, limit = WALKS[letter]
+        answer, met = self.call(start), []
+        while answer in OBJECT and len(met) != limit:
+            met.append(self.x)
+            heard = self.call(step, len(met))
+            answer = answer if limit else heard
+        return answer, met
+
+
+def printed(label, letters, rank, buffer):
+    """The lines that a case prints."""
+    for letter in letters:
+        if letter in WALKS:
+            title = f"{label}, {WALKS[letter][0]}, {WALKS[letter][1]} ..:"
+            answer, met = buffer.walk(letter)
+            if letter == "a":
+                yield from (f"{title}{words(x)}, RANK {i}, UNRANK{words(x)}" for i, x in enumerate(met))
+            elif letter == "z":
+                yield from (f"{title}{words(x)}" for x in met)
+            else:
+                yield f"{title} {answer}, objects {len(met)}, digest {digest(met)}"
+        else:
+            call = CALLS[letter.lower()]
+            title = f"{label}, {call} {rank}:" if call == "UNRANK" else f"{label}, {call}:"
+            answer = buffer.call(call, rank)
+            if letter.isupper():
+                yield title + (words(buffer.x) if answer in OBJECT else f" {answer}")
+            else:
+                yield f"{title} {answer}" if letter in "cr" else f"{title} {answer}, digest {digest([buffer.x])}"
+
+
+def case(label, letters, rank, f, x):
+    """The line of a case; what is empty at its end is left out."""
+    kind, n, k, counts = f
+    line = f"{label}: {letters} {rank} / {kind} {n} {k} /{words(x)} /{words(counts)}"
+    return line.rstrip(" /")
+
+
+def small_families():
+    fs = []
+    for n in range(7):
+        fs += [family(kind, n, k) for k in range(7) for kind in (1, 4, 5)] + [family(3, n), family(6, n)]
+    fs += [family(2, 3, 0, counts) for counts in product(range(4), range(4), range(3))]
+    return [(name(f), "cwbt", 0, f, [0] * length(f), Filtered) for f in fs]
+
+
+def refusals():
+    up = lambda n: range(1, n + 1)
+    largest = FITS - 1
+    cases = [
+        (1, "", family(0, 4, 2), up(2), 0),
+        (1, "", family(7, 4, 2), up(2), 0),
+        (1, "", family(largest, 4, 2), up(2), 0),
+        (2, "", family(1, PLACES + 1, 2), up(2), 0),
+        (2, "", family(1, 4, PLACES + 1), up(2), 0),
+        (2, "", family(3, 4, 1), up(4), 0),
+        (2, "", family(6, BRANCHES + 1), up(PLACES), 0),
+        (3, " with n 3", family(2, 3, 0, (1, 1)), up(2), 0),
+        (3, "", family(2, 2, 0, (PLACES, 1)), up(2), 0),
+        (3, " with a count", family(1, 4, 2, (0,)), up(2), 0),
+        (4, "", family(1, 2, 4), up(4), 0),
+        (4, "", family(4, 3, 0), up(3), 0),
+        (4, "", family(5, 3, 0), up(0), 0),
+        (4, "", family(5, 3, 4), up(4), 0),
+        (5, "", family(1, PLACES, PLACES // 2), up(PLACES // 2), 0),
+        (5, "", family(3, 21), up(21), 0),
+        (6, " on 3 bytes", family(1, 4, 2), up(3), 0),
+        (7, "", family(6, 2), up(4), 0),
+        (7, "", family(5, 7, 3), up(3), 0),
+        (7, "", family(4, 4, 2), up(4), 0),
+        (8, " with rank 6", family(1, 4, 2), up(2), 6),
+        (8, f" with rank {largest}", family(1, 4, 2), up(2), largest),
+        (8, " with its last rank", family(1, 4, 2), up(2), 5),
+    ]
+    return [(f"question {q}, {name(f)}{more}", "crnpulf", rank, f, list(x), Ranks) for q, more, f, x, rank in cases]
+
+
+def large_families():
+    fs = [family(1, n, k) for n, k in ((67, 33), (68, 34), (80, 21), (80, 40), (80, 80))]
+    fs += [family(2, len(counts), 0, counts) for counts in ((33, 34), (40, 40), (0, 6, 0, 7, 8), (1,) * PLACES)]
+    fs += [family(3, n) for n in (20, 21, 80)]
+    fs += [family(4, n, k) for n, k in ((26, 9), (27, 8), (65, 2), (66, 2), (80, 40))]
+    fs += [family(5, n, k) for n, k in ((80, 18), (80, 80))]
+    fs += [family(6, n) for n in (36, 37, 40)]
+    return [(name(f), "c><ur", 1234567890123456789, f, [0] * length(f), Ranks) for f in fs]
+
+
+def listings():
+    fs = [family(1, n, k) for n, k in ((0, 0), (3, 0), (4, 2), (5, 3), (5, 5))]
+    fs += [family(2, len(counts), 0, counts) for counts in ((), (0,), (3,), (2, 1), (1, 0, 2), (1, 1, 1), (2, 2))]
+    fs += [family(3, n) for n in (0, 1, 3, 4)]
+    return [(name(f), "az", 0, f, [0] * length(f), Filtered) for f in fs]
+
+
+# Typed from the sources, the answers too: source and number, letter, family, what is lent or the rank, the answer.
+LISTED = [
+    ("000 5.39", family(3, 4), "1234 1243 1324 1342 1423 1432 2134 2143"),
+    ("000 5.40", family(1, 5, 2), "12 13 23 14 24 34 15 25 35 45 END"),
+    ("004 3.1", family(1, 4, 4), "1234 END"),
+    ("000 5.35", family(6, 3), "101010 101100 110010 110100 111000 END"),
+]
+WORKED = [
+    ("000 5.20", "r", family(3, 6), "462153", "463"),
+    ("000 5.20", "U", family(3, 6), 397, "425163"),
+    ("000 5.39", "L", family(3, 4), None, "4321"),
+    ("000 5.23", "U", family(1, 8, 4), 53, "3568"),
+    ("000 5.25", "r", family(2, 3, 0, (2, 3, 2)), "1223132", "23"),
+    ("000 5.25", "U", family(2, 3, 0, (2, 3, 2)), 91, "2211323"),
+    ("000 5.38", "N", family(2, 4, 0, (1, 2, 3, 1)), "2431332", "2432133"),
+    ("000 5.38", "N", family(2, 4, 0, (1, 2, 3, 1)), "2432133", "2432313"),
+    ("000 5.28", "r", family(4, 8, 4), "12322413", "1108"),
+    ("000 5.28", "U", family(4, 7, 3), 111, "1223231"),
+    ("004 3.3", "F", family(4, 7, 3), None, "1111123"),
+    ("004 3.3", "L", family(4, 7, 3), None, "1233333"),
+    ("000 5.34", "r", family(6, 5), "1101100010", "24"),
+    ("000 5.36", "U", family(6, 7), 211, "11011000111000"),
+    ("000 5.41", "N", family(6, 3), "101100", "110010"),
+    ("000 5.41", "F", family(6, 4), None, "10101010"),
+    ("000 5.41", "L", family(6, 4), None, "11110000"),
+]
+
+
+def published():
+    """The lines of the cases, and of what they print."""
+    examples = []
+    for source, f, listed in LISTED:
+        first, *rest = listed.split()
+        examples.append((source, "F", f, None, first))
+        examples += [(source, "N", f, x, y) for x, y in zip([first, *rest], rest)]
+    cases, lines = [], []
+    for source, letter, f, given, answer in examples + WORKED:
+        rank = given if letter == "U" else 0
+        x = [int(b) for b in given] if letter in "rN" else [0] * length(f)
+        label = f"{source}, {name(f)}" + (f" at{words(x)}" if letter in "rN" else "")
+        cases.append(case(label, letter, rank, f, x))
+        said = answer if letter == "r" or answer == "END" else " ".join(answer)
+        lines.append(f"{label}, {CALLS[letter.lower()]}" + (f" {rank}" if letter == "U" else "") + f": {said}")
+    return cases, lines
+
+
+def write(path, lines):
+    with open(f"crates/test_calls/{path}", "w") as out:
+        out.write("".join(line + "\n" for line in lines))
+
+
+def main():
+    made = {"small_families": small_families(), "refusals": refusals(), "large_families": large_families(), "listings": listings()}
+    expected = []
+    for file in open("crates/test_calls/args").read().split():
+        if file == "published":
+            cases, lines = published()
+        else:
+            cases = [case(*c[:5]) for c in made[file]]
+            lines = [line for label, letters, rank, f, x, way in made[file] for line in printed(label, letters, rank, Buffer(f, way(f), x))]
+        write(f"data/{file}", cases)
+        expected += lines
+    write("stdout", expected)
+
+
+main()
