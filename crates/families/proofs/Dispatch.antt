@@ -1,10 +1,9 @@
 -- What a call knows when it hands a family to its kind: the family's listing, order, objects and count as the kind's row says them.
 -- Assumes nothing.
-use mathlib.Core.Path.{_≡_, refl, sym, _∙_, ap, subst}
+use mathlib.Core.Path.{_≡_, refl, sym, _∙_, subst}
 use mathlib.Core.Bool.{Bool, true, _&&_, _||_}
 use mathlib.Core.Logic.{⊎-elim}
-use mathlib.Core.List.{List, [], _∷_, map}
-use Prim.Native.Nat.{ℕ, zero, suc, _≤_, _<_, min}
+use Prim.Native.Nat.{ℕ, suc, _≤_, _<_, min}
 use native.Mathlib.Nat.{min-eq-left, min-eq-right}
 use native.Mathlib.Omega.{arith}
 use native.Mathlib.Decide.{decLe}
@@ -123,9 +122,3 @@ to-limit v m =
       | yes h ↦ rw (min-eq-left {n = v} {m = suc m} (omega arith))
       | no h ↦ rw (min-eq-right {n = suc m} {m = v} (omega arith), lt-leb (suc m) m (omega arith), lt-leb v m (omega arith))
     ]
-
--- a list read by its place in code is what is lent there
-pub read-list : {A : Type 0} (g : A → List ℕ) (l : List A) (i : ℕ) (d : A) → g (getD l i d) ≡ getD (map g l) i (g d)
-read-list g [] i d = refl
-read-list g (x ∷ l) zero d = refl
-read-list g (x ∷ l) (suc i) d = read-list g l i d

@@ -1,8 +1,8 @@
 -- `arrangements::by_value` meets its contract: each list stands at its place.
 -- Assumes nothing.
+use lib.ListN.{List·getD-map}
 use denote.Ref.{now}
 use borrow.Author.Needs.{needs}
-use Rattle.families.proofs.Dispatch.{read-list}
 use Rattle.arrangements.proofs.by_value.Statement.{statement}
 use Rattle.arrangements.proofs.by_value.Tie as tie
 
@@ -10,7 +10,7 @@ element-copy-out-counts : tie.Need-element-copy-out-counts
 element-copy-out-counts c = search needs
 
 returns : tie.Need-returns
-returns c = rw (read-list now (now (c .before .args .lists)) 0 _)
+returns c = rw (← List·getD-map now (now (c .before .args .lists)) 0 _)
 
 pub by-value-spec : {M : Type 1} → statement M
 by-value-spec = tie.close (tie.spec element-copy-out-counts returns)

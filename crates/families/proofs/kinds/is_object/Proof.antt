@@ -1,11 +1,12 @@
 -- `families::kinds::is_object` meets its contract: each kind's objects are the family's.
 -- Assumes nothing.
-use mathlib.Core.Path.{refl, sym, _∙_}
+use mathlib.Core.Path.{sym, _∙_}
+use lib.ListN.{List·getD-map}
 use denote.Ref.{now}
 use borrow.Author.Needs.{needs}
 use Rattle.families.specs.Table.{subsetRow, anagramRow, permutationRow, setPartitionRow, integerPartitionRow, dyckWordRow, table}
 use Rattle.families.proofs.FamilyFacts.{has-arm}
-use Rattle.families.proofs.Dispatch.{handed, n-within, letters-fit, read-list}
+use Rattle.families.proofs.Dispatch.{handed, n-within, letters-fit}
 use Rattle.families.proofs.kinds.is_object.Statement.{statement}
 use Rattle.families.proofs.kinds.is_object.Tie as tie
 
@@ -29,13 +30,13 @@ is-object-requires-2 : tie.Need-is-object-requires-2
 unfolding table anagramRow
 is-object-requires-2 c κs =
     let t = handed 2 _ _ (c .match .keys2) (c .before .before .before .pre) in
-    rw (read-list now (c .before .before .before .args .t2) 0 _) (letters-fit t)
+    rw (← List·getD-map now (c .before .before .before .args .t2) 0 _) (letters-fit t)
 
 returns-2 : tie.Need-returns-2
 unfolding table anagramRow
 returns-2 c =
     let t = handed 2 _ _ (c .before .match .keys2) (c .before .before .before .before .pre) in
-    (rw (read-list now (c .before .before .before .before .args .t2) 0 _) at (c .is-object2 .ensures)) ∙ sym (t .objects _)
+    (rw (← List·getD-map now (c .before .before .before .before .args .t2) 0 _) at (c .is-object2 .ensures)) ∙ sym (t .objects _)
 
 -- kind 3
 

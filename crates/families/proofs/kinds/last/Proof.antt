@@ -1,14 +1,14 @@
 -- `families::kinds::last` meets its contract: each kind is handed what it asks, and its listing is the family's.
 -- Assumes nothing.
-use mathlib.Core.Path.{refl, sym, _∙_}
+use mathlib.Core.Path.{refl, _∙_}
 use native.Mathlib.Omega.{arith}
-use lib.ListN.{length}
+use lib.ListN.{length, List·getD-map}
 use denote.Ref.{now}
 use borrow.Author.Needs.{needs}
 use borrow.Author.Tests.{leb-true}
 use Rattle.families.specs.Table.{subsetRow, anagramRow, permutationRow, setPartitionRow, integerPartitionRow, dyckWordRow, table}
 use Rattle.families.proofs.FamilyFacts.{has-arm}
-use Rattle.families.proofs.Dispatch.{handed, long-n, long-k, n-within, letters-fit, shared, read-list}
+use Rattle.families.proofs.Dispatch.{handed, long-n, long-k, n-within, letters-fit, shared}
 use Rattle.families.proofs.kinds.last.Statement.{statement}
 use Rattle.families.proofs.kinds.last.Tie as tie
 
@@ -38,7 +38,7 @@ last-requires-2 : tie.Need-last-requires-2
 unfolding table anagramRow
 last-requires-2 c κs =
     let t = handed 2 _ _ (c .before .match .keys2) (c .before .before .before .before .pre .0) in
-    rw (read-list now (c .before .before .before .before .args .t2) 0 _) (letters-fit t, c .before .before .before .before .pre .1 .1 ∙ t .long)
+    rw (← List·getD-map now (c .before .before .before .before .args .t2) 0 _) (letters-fit t, c .before .before .before .before .pre .1 .1 ∙ t .long)
 
 same-length-2 : tie.Need-same-length-2
 same-length-2 c = search needs
@@ -47,7 +47,7 @@ returns-2 : tie.Need-returns-2
 unfolding table anagramRow
 returns-2 c =
     let t = handed 2 _ _ (c .before .before .before .before .match .keys2) (c .before .before .before .before .before .before .before .pre .0) in
-    rw (t .lists) (rw (read-list now (c .before .before .before .before .before .before .before .args .t2) 0 _) at (c .before .before .last2 .ensures))
+    rw (t .lists) (rw (← List·getD-map now (c .before .before .before .before .before .before .before .args .t2) 0 _) at (c .before .before .last2 .ensures))
 
 -- kind 3
 

@@ -2,13 +2,13 @@
 -- Assumes nothing.
 use mathlib.Core.Path.{refl, sym, _∙_}
 use native.Mathlib.Omega.{arith}
-use lib.ListN.{length}
+use lib.ListN.{List·getD-map}
 use denote.Ref.{now}
 use borrow.Author.Needs.{needs}
 use Rattle.families.specs.Table.{subsetRow, anagramRow, permutationRow, setPartitionRow, integerPartitionRow, dyckWordRow, table}
 use Rattle.families.specs.Families.{rankOf}
 use Rattle.families.proofs.FamilyFacts.{has-arm, object-allowed}
-use Rattle.families.proofs.Dispatch.{object, object-n, object-k, n-within, letters-fit, read-list}
+use Rattle.families.proofs.Dispatch.{object, object-n, object-k, n-within, letters-fit}
 use Rattle.families.proofs.kinds.rank.Statement.{statement}
 use Rattle.families.proofs.kinds.rank.Tie as tie
 
@@ -35,13 +35,13 @@ rank-requires-2 : tie.Need-rank-requires-2
 unfolding table anagramRow
 rank-requires-2 c κs =
     let t = object 2 _ _ _ (c .match .keys2) (c .before .before .before .pre .0) in
-    rw (read-list now (c .before .before .before .args .t2) 0 _) (letters-fit t, (t .short, (sym (t .objects _) ∙ c .before .before .before .pre .0, rw (t .counted) at (c .before .before .before .pre .1))))
+    rw (← List·getD-map now (c .before .before .before .args .t2) 0 _) (letters-fit t, (t .short, (sym (t .objects _) ∙ c .before .before .before .pre .0, rw (t .counted) at (c .before .before .before .pre .1))))
 
 returns-2 : tie.Need-returns-2
 unfolding table anagramRow rankOf
 returns-2 c =
     let t = object 2 _ _ _ (c .before .match .keys2) (c .before .before .before .before .pre .0) in
-    rw (t .orders, t .lists) (rw (read-list now (c .before .before .before .before .args .t2) 0 _) at (c .rank2 .ensures))
+    rw (t .orders, t .lists) (rw (← List·getD-map now (c .before .before .before .before .args .t2) 0 _) at (c .rank2 .ensures))
 
 -- kind 3
 

@@ -1,14 +1,14 @@
 -- `families::kinds::unrank` meets its contract: each kind is handed what it asks, and its listing is the family's.
 -- Assumes nothing.
-use mathlib.Core.Path.{refl, sym, _∙_}
+use mathlib.Core.Path.{refl, _∙_}
 use native.Mathlib.Omega.{arith}
-use lib.ListN.{length}
+use lib.ListN.{List·getD-map}
 use denote.Ref.{now}
 use borrow.Author.Needs.{needs}
 use Rattle.numbers.specs.Numbers.{partitionsOf}
 use Rattle.families.specs.Table.{subsetRow, anagramRow, permutationRow, setPartitionRow, integerPartitionRow, dyckWordRow, table}
 use Rattle.families.proofs.FamilyFacts.{has-arm}
-use Rattle.families.proofs.Dispatch.{handed, long-n, long-k, n-within, letters-fit, read-list}
+use Rattle.families.proofs.Dispatch.{handed, long-n, long-k, n-within, letters-fit}
 use Rattle.families.proofs.kinds.unrank.Statement.{statement}
 use Rattle.families.proofs.kinds.unrank.Tie as tie
 
@@ -38,7 +38,7 @@ unrank-requires-2 : tie.Need-unrank-requires-2
 unfolding table anagramRow
 unrank-requires-2 c κs =
     let t = handed 2 _ _ (c .before .match .keys2) (c .before .before .before .before .pre .0) in
-    rw (read-list now (c .before .before .before .before .args .t3) 0 _) (letters-fit t, ((t .short, c .before .before .before .before .pre .1 .1 .0 ∙ t .long), (rw (t .counted) at (c .before .before .before .before .pre .1 .0), rw (t .counted) at (c .before .before .before .before .pre .1 .1 .1))))
+    rw (← List·getD-map now (c .before .before .before .before .args .t3) 0 _) (letters-fit t, ((t .short, c .before .before .before .before .pre .1 .1 .0 ∙ t .long), (rw (t .counted) at (c .before .before .before .before .pre .1 .0), rw (t .counted) at (c .before .before .before .before .pre .1 .1 .1))))
 
 same-length-2 : tie.Need-same-length-2
 same-length-2 c = search needs
@@ -47,7 +47,7 @@ returns-2 : tie.Need-returns-2
 unfolding table anagramRow
 returns-2 c =
     let t = handed 2 _ _ (c .before .before .before .before .match .keys2) (c .before .before .before .before .before .before .before .pre .0) in
-    rw (t .lists) (rw (read-list now (c .before .before .before .before .before .before .before .args .t3) 0 _) at (c .before .before .unrank2 .ensures))
+    rw (t .lists) (rw (← List·getD-map now (c .before .before .before .before .before .before .before .args .t3) 0 _) at (c .before .before .unrank2 .ensures))
 
 -- kind 3
 

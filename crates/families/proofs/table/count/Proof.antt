@@ -1,12 +1,13 @@
 -- `families::table::count` meets its contract. Each arm asks the crate `counting` within its limits, which the table keeps to.
 -- Assumes nothing.
 use mathlib.Core.List.{map}
+use lib.ListN.{List·getD-map}
 use denote.Ref.{now}
 use borrow.Author.Needs.{needs}
 use Rattle.listings.proofs.Bools.{and-true}
 use Rattle.families.specs.Table.{lent, subsetRow, anagramRow, permutationRow, setPartitionRow, integerPartitionRow, dyckWordRow, table}
 use Rattle.families.proofs.FamilyFacts.{has-arm}
-use Rattle.families.proofs.Dispatch.{handed, sum-fits, read-list}
+use Rattle.families.proofs.Dispatch.{handed, sum-fits}
 use Rattle.families.proofs.CountAnswers.{answer-within}
 use Rattle.families.proofs.table.count.Statement.{statement}
 use Rattle.families.proofs.table.count.Tie as tie
@@ -42,7 +43,7 @@ returns-2 : tie.Need-returns-2
 unfolding table anagramRow
 returns-2 c =
     let t = handed 2 (c .before .before .before .args .f) (lent (map now (c .before .before .before .args .t2))) (c .before .match .keys2) (c .before .before .before .pre) in
-    answer-within (rw (read-list now (c .before .before .before .args .t2) 0 _) at (c .multinomial .ensures)) (sum-fits t) (t .counted)
+    answer-within (rw (← List·getD-map now (c .before .before .before .args .t2) 0 _) at (c .multinomial .ensures)) (sum-fits t) (t .counted)
 
 returns-3 : tie.Need-returns-3
 unfolding table permutationRow

@@ -2,13 +2,13 @@
 -- Assumes nothing.
 use mathlib.Core.Path.{sym, _∙_}
 use mathlib.Core.List.{map}
+use lib.ListN.{List·getD-map}
 use denote.Ref.{now}
 use borrow.Author.Tests.{eq-eqb, ne-eqb}
 use borrow.Author.Needs.{needs}
 use Rattle.families.specs.Table.{lent, noCounts}
-use Rattle.families.specs.Families.{listsFit}
 use Rattle.families.proofs.RowsHold.{with-counts, no-counts}
-use Rattle.families.proofs.Dispatch.{to-limit, read-list}
+use Rattle.families.proofs.Dispatch.{to-limit}
 use Rattle.families.proofs.table.lists_fit.Statement.{statement}
 use Rattle.families.proofs.table.lists_fit.Tie as tie
 
@@ -17,11 +17,11 @@ array-copy-out-counts c = search needs
 
 returns : tie.Need-returns
 unfolding noCounts
-returns c = rw (read-list now (c .before .before .args .t2) 0 _) (sym (no-counts (c .before .before .args .f) (lent (map now (c .before .before .args .t2))) (c .if1 .taken)))
+returns c = rw (← List·getD-map now (c .before .before .args .t2) 0 _) (sym (no-counts (c .before .before .args .f) (lent (map now (c .before .before .args .t2))) (c .if1 .taken)))
 
 returns-2 : tie.Need-returns-2
 returns-2 c =
-    let other = rw (read-list now (c .before .before .before .args .t2) 0 _) at (c .if2 .taken) in
+    let other = rw (← List·getD-map now (c .before .before .before .args .t2) 0 _) at (c .if2 .taken) in
     sym (with-counts _ _ (c .before .if1 .left) ∙ rw (ne-eqb _ _ other))
 
 sum-to-limit-requires : tie.Need-sum-to-limit-requires
@@ -29,8 +29,8 @@ sum-to-limit-requires c κs = tt
 
 returns-3 : tie.Need-returns-3
 returns-3 c =
-    let many = rw (read-list now (c .before .before .before .before .args .t2) 0 _) at (c .before .if2 .left) in
-    let sum = rw (read-list now (c .before .before .before .before .args .t2) 0 _) at (c .sum-to-limit .ensures) in
+    let many = rw (← List·getD-map now (c .before .before .before .before .args .t2) 0 _) at (c .before .if2 .left) in
+    let sum = rw (← List·getD-map now (c .before .before .before .before .args .t2) 0 _) at (c .sum-to-limit .ensures) in
     rw (sum, to-limit) (sym (with-counts _ _ (c .before .before .if1 .left) ∙ rw (eq-eqb _ _ many)))
 
 pub lists-fit-spec : {M : Type 1} → statement M

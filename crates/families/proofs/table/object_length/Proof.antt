@@ -5,6 +5,7 @@ use mathlib.Core.List.{map}
 use Prim.Native.Nat.{_≤_}
 use native.Mathlib.Nat.{min-eq-left}
 use native.Mathlib.Omega.{arith}
+use lib.ListN.{List·getD-map}
 use denote.Ref.{now}
 use borrow.Author.Tests.{leb-true}
 use borrow.Author.Needs.{needs}
@@ -13,7 +14,7 @@ use Rattle.numbers.specs.Sums.{total}
 use Rattle.families.specs.Table.{lent, subsetRow, anagramRow, permutationRow, setPartitionRow, integerPartitionRow, dyckWordRow, table}
 use Rattle.families.specs.Families.{row, objectLength}
 use Rattle.families.proofs.FamilyFacts.{has-arm}
-use Rattle.families.proofs.Dispatch.{handed, n-within, sum-fits, read-list}
+use Rattle.families.proofs.Dispatch.{handed, n-within, sum-fits}
 use Rattle.families.proofs.table.object_length.Statement.{statement}
 use Rattle.families.proofs.table.object_length.Tie as tie
 
@@ -39,7 +40,7 @@ unfolding table anagramRow
 returns-2 c =
     let t = handed 2 (c .before .before .before .args .f) (lent (map now (c .before .before .before .args .t2))) (c .before .match .keys2) (c .before .before .before .pre) in
     let short = leb-true (total (lent (map now (c .before .before .before .args .t2)) .counts)) places (sum-fits t) in
-    (rw (read-list now (c .before .before .before .args .t2) 0 _) at (c .sum-to-limit .ensures)) ∙ min-eq-left (omega arith) ∙ sym (t .long)
+    (rw (← List·getD-map now (c .before .before .before .args .t2) 0 _) at (c .sum-to-limit .ensures)) ∙ min-eq-left (omega arith) ∙ sym (t .long)
 
 returns-3 : tie.Need-returns-3
 unfolding objectLength row table permutationRow
