@@ -1,6 +1,6 @@
 #!/usr/bin/env python3
 """Writes what `binomials` knows of the factorials 0! to 80!, and the last column of each row of binomial coefficients that fits 64 bits: the lists
-(specs/Factorials.antt), the code that reads them (src/factorials.rt) and its proofs (proofs/factorials/). The crate's proofs test the lists against
+(specs/inner/Factorials.antt), the code that reads them (src/factorials.rt) and its proofs (proofs/factorials/). The crate's proofs test the lists against
 the addition rule; nothing rests on this script.
 
     python3 tools/factorials.py [DIR] && rt fmt
@@ -38,7 +38,7 @@ def listed(name, title, numbers):
 
 
 write(
-    "specs/Factorials.antt",
+    "specs/inner/Factorials.antt",
     f"-- The factorials of 0 to {LAST} by their odd parts and their factors 2, and the last columns that fit; written by tools/factorials.py.\n"
     "-- Assumes nothing.\nuse mathlib.Core.List.{List, [], _∷_}\nuse Prim.Native.Nat.{ℕ}\nuse lib.ListN.{getD}\n"
     "use Rattle.binomials.specs.declared.factorials.Parts.{Parts}\n\n"
@@ -57,7 +57,7 @@ write(
 ghost use mathlib.Core.Path.{{_≡_}};
 ghost use Prim.Native.Nat.{{_-_, _≤_}};
 ghost use lib.ListN.{{getD}};
-ghost use Rattle.binomials.specs.Factorials.{{partsOf, lastColumns}};
+ghost use Rattle.binomials.specs.inner.Factorials.{{partsOf, lastColumns}};
 
 // Of a factorial: its odd part modulo 2^64, the inverse of that modulo 2^64, and how often 2 divides it.
 pub struct Parts(pub u64, pub u64, pub u64);
@@ -103,7 +103,7 @@ proof(
     "parts_of",
     ARMS,
     "use mathlib.Core.Path.{_≡_, refl, sym, ap}\nuse Prim.Native.Nat.{ℕ}\n"
-    "use Rattle.binomials.specs.declared.factorials.Parts.{Parts}\nuse Rattle.binomials.specs.Factorials.{odds, inverses, twos, partsOf}\n",
+    "use Rattle.binomials.specs.declared.factorials.Parts.{Parts}\nuse Rattle.binomials.specs.inner.Factorials.{odds, inverses, twos, partsOf}\n",
     "at : {n i : ℕ} → n ≡ i → partsOf i ≡ partsOf n\nat e = ap partsOf (sym e)\n\n"
     "none : {a b c : ℕ} → 0 ≡ a → 0 ≡ b → 0 ≡ c → _≡_ {A = Parts} (0, 0, 0) (a, b, c)\nnone p q r = cc",
     [],
@@ -114,7 +114,7 @@ proof(
     "last_column",
     ARMS,
     "use mathlib.Core.Path.{_≡_, refl, sym, ap}\nuse Prim.Native.Nat.{ℕ, _-_}\nuse lib.ListN.{getD}\nuse borrow.Author.Needs.{needs}\n"
-    "use Rattle.binomials.specs.Factorials.{lastColumns}\n",
+    "use Rattle.binomials.specs.inner.Factorials.{lastColumns}\n",
     "at : {n i : ℕ} → n ≡ i → getD lastColumns i 0 ≡ getD lastColumns n 0\nat e = ap (λ (i : ℕ). getD lastColumns i 0) (sym e)",
     ["(λ c. search needs)"],
     len(columns),

@@ -26,7 +26,7 @@ def write_list(crates, crate, script, module, function, spec, name, title, numbe
     write(f"src/{module}.rt", f"""// Written by {script}. A match of literals is compiled to a read from memory, while a const would be written out at each read.
 ghost use mathlib.Core.Path.{{_≡_}};
 ghost use lib.ListN.{{getD}};
-ghost use Rattle.{crate}.specs.{spec}.{{{name}}};
+ghost use Rattle.{crate}.specs.inner.{spec}.{{{name}}};
 
 pub fn {function}(at: u64) -> u64
     ensures {{ λ r. ⌜ r ≡ getD {name} at 0 ⌝ }}
@@ -36,7 +36,7 @@ pub fn {function}(at: u64) -> u64
     }}
 }}
 """)
-    write(f"specs/{spec}.antt", f"""-- Written by {script}: {title} Assumes nothing.
+    write(f"specs/inner/{spec}.antt", f"""-- Written by {script}: {title} Assumes nothing.
 use mathlib.Core.List.{{List, [], _∷_}}
 use Prim.Native.Nat.{{ℕ}}
 
@@ -50,7 +50,7 @@ abbrev pub {name} : List ℕ
 use mathlib.Core.Path.{{_≡_, refl, sym, ap}}
 use Prim.Native.Nat.{{ℕ}}
 use lib.ListN.{{getD}}
-use Rattle.{crate}.specs.{spec}.{{{name}}}
+use Rattle.{crate}.specs.inner.{spec}.{{{name}}}
 use Rattle.numbers.proofs.Past.{{past}}
 use Rattle.{crate}.proofs.{module}.{function}.Statement.{{statement}}
 use Rattle.{crate}.proofs.{module}.{function}.Tie as tie

@@ -19,4 +19,4 @@ for n in range(ROWS):
 numbers = [stirlings[n][k] for n in range(3, ROWS + 1) for k in range(2, n)]
 title = f"""the rows 3 to {ROWS} of the Stirling numbers of the second kind, row after row, each without its ends: from two
 -- blocks on, and not as many blocks as models."""
-write_list(sys.argv[1] if len(sys.argv) > 1 else "crates", "stirling_rows", "tools/stirlings.py", "inner", "number", "Inner", "numbers", title, numbers)
+write_list(sys.argv[1] if len(sys.argv) > 1 else "crates", "stirling_rows", "tools/stirlings.py", "inner", "number", "Literals", "numbers", title, numbers)

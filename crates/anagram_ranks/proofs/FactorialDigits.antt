@@ -23,7 +23,7 @@ use Rattle.anagrams.specs.Permutations.{ones, permutations}
 use Rattle.anagrams.proofs.Facts.{first-off}
 use Rattle.anagrams.proofs.Ones.{take-ones, length-ones}
 use Rattle.anagrams.proofs.PermutationTheorem.{permutations-listed}
-use Rattle.anagram_ranks.specs.Raised.{raised}
+use Rattle.anagram_ranks.specs.inner.Raised.{raised}
 use Rattle.anagram_ranks.proofs.Turns.{left-inside, length-one-less}
 use Rattle.anagram_ranks.proofs.Placing.{place-letter}
 use Rattle.anagram_ranks.proofs.Raising.{putZero, words-put}

@@ -12,7 +12,7 @@ use lib.Seq.{take-all}
 use borrow.Author.Tests.{le-leb, lt-leb}
 use Rattle.numbers.specs.Numbers.{oneLess, lettersFrom}
 use Rattle.anagrams.specs.Listing.{words}
-use Rattle.anagram_ranks.specs.Raised.{raised}
+use Rattle.anagram_ranks.specs.inner.Raised.{raised}
 
 -- which letters go up
 

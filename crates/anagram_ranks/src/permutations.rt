@@ -10,7 +10,7 @@ ghost use Rattle.numbers.specs.Numbers.{factorialOf};
 ghost use Rattle.listings.specs.Places.{At, countBefore};
 ghost use Rattle.anagrams.specs.Objects.{anagramBefore};
 ghost use Rattle.anagrams.specs.Permutations.{isPermutation, permutations};
-ghost use Rattle.anagram_ranks.specs.Raised.{raised};
+ghost use Rattle.anagram_ranks.specs.inner.Raised.{raised};
 use crate::ranking::rank_of;
 use anagrams::permutations::all_ones;
 use counting::Count;

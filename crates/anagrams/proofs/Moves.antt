@@ -12,7 +12,7 @@ use Rattle.listings.specs.Bytes.{Bytes}
 use Rattle.listings.specs.Calls.{NEXT, PREVIOUS, STEPPED, Said, act}
 use Rattle.anagrams.specs.Objects.{isAnagram, anagramBefore}
 use Rattle.anagrams.specs.Listing.{anagrams}
-use Rattle.anagrams.specs.Directions.{precedesBy, Spent, NoneBeyond}
+use Rattle.anagrams.specs.inner.Directions.{precedesBy, Spent, NoneBeyond}
 use Rattle.anagrams.proofs.Swaps.{swapped, swap-at}
 use Rattle.anagrams.proofs.Neighbours.{stepped}
 

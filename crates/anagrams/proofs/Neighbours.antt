@@ -18,7 +18,7 @@ use Rattle.listings.proofs.Ranks.{none-between, least-first, greatest-last}
 use Rattle.listings.proofs.Stepping.{next-steps, next-ends, previous-steps, previous-ends}
 use Rattle.anagrams.specs.Objects.{isAnagram, anagramBefore}
 use Rattle.anagrams.specs.Listing.{anagrams}
-use Rattle.anagrams.specs.Directions.{precedesBy, Spent, NoneBeyond}
+use Rattle.anagrams.specs.inner.Directions.{precedesBy, Spent, NoneBeyond}
 use Rattle.anagrams.proofs.Theorem.{long, lists}
 use Rattle.anagrams.proofs.Rearranging.{rearranged, exchanged, peeled, stands-in}
 

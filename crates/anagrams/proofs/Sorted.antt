@@ -21,7 +21,7 @@ use Rattle.listings.specs.Places.{First, Last}
 use Rattle.listings.proofs.PlaceRules.{at-unique-element}
 use Rattle.anagrams.specs.Objects.{isAnagram}
 use Rattle.anagrams.specs.Listing.{anagrams}
-use Rattle.anagrams.specs.Directions.{precedesBy, Spent}
+use Rattle.anagrams.specs.inner.Directions.{precedesBy, Spent}
 use Rattle.anagrams.proofs.Facts.{without-first, empty-word}
 use Rattle.anagrams.proofs.Rearranging.{rearranged}
 use Rattle.anagrams.proofs.Neighbours.{spent-first, spent-last, spent-reverse}

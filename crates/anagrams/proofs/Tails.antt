@@ -13,7 +13,7 @@ use lib.Seq.{drop-cons}
 use borrow.Author.Tests.{not-true}
 use Rattle.listings.specs.Bytes.{Bytes}
 use Rattle.listings.specs.Listings.{none, more}
-use Rattle.anagrams.specs.Directions.{precedesBy, Spent, NoneBeyond}
+use Rattle.anagrams.specs.inner.Directions.{precedesBy, Spent, NoneBeyond}
 use Rattle.anagrams.proofs.Neighbours.{not-later}
 
 -- no letter of the tail precedes a later one

@@ -2,4 +2,4 @@
 pub mod Objects
 pub mod Listing
 pub mod Permutations
-pub mod Directions
+pub mod inner

@@ -8,7 +8,7 @@ ghost use Rattle.listings.specs.Calls.{NEXT, PREVIOUS, Said, act};
 ghost use Rattle.listings.specs.Steps.{stepAs};
 ghost use Rattle.anagrams.specs.Objects.{isAnagram, anagramBefore};
 ghost use Rattle.anagrams.specs.Listing.{anagrams};
-ghost use Rattle.anagrams.specs.Directions.{precedesBy, Spent, NoneBeyond};
+ghost use Rattle.anagrams.specs.inner.Directions.{precedesBy, Spent, NoneBeyond};
 use listings::Step;
 
 // Does a come before b, or, going back, after it?

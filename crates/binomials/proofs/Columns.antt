@@ -8,7 +8,7 @@ use lib.ListN.{getD}
 use borrow.Author.Tests.{lt-ltb, le-ltb, le-leb, lt-leb}
 use Rattle.numbers.specs.Limits.{places}
 use Rattle.numbers.specs.Numbers.{choose}
-use Rattle.binomials.specs.Factorials.{lastColumns}
+use Rattle.binomials.specs.inner.Factorials.{lastColumns}
 use Rattle.binomials.proofs.Tested.{within, made-of}
 
 module _ (n k : ℕ) (h : n ≤ places) (b : k ≤ n) where

@@ -14,8 +14,8 @@ use Rattle.numbers.specs.Sums.{range}
 use Rattle.numbers.proofs.Triangles.{row}
 use Rattle.numbers.proofs.Weighted.{step}
 use Rattle.numbers.proofs.Binomials.{pascal-weighted}
-use Rattle.binomials.specs.Factorials.{odds, inverses, twos, lastColumns}
-use Rattle.binomials.specs.Factors.{numberAt}
+use Rattle.binomials.specs.inner.Factorials.{odds, inverses, twos, lastColumns}
+use Rattle.binomials.specs.inner.Factors.{numberAt}
 use Rattle.binomials.proofs.Rows.{holds, tests, every}
 
 -- the first i factorials that divide: the inverse of their odd part, modulo 2^64, and their factors 2

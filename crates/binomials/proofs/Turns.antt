@@ -8,8 +8,8 @@ use lib.ListN.{getD}
 use Rattle.numbers.specs.Limits.{places}
 use Rattle.numbers.specs.Numbers.{choose}
 use Rattle.binomials.specs.declared.factorials.Parts.{Parts}
-use Rattle.binomials.specs.Factorials.{odds, inverses, twos, partsOf}
-use Rattle.binomials.specs.Factors.{numberAt}
+use Rattle.binomials.specs.inner.Factorials.{odds, inverses, twos, partsOf}
+use Rattle.binomials.specs.inner.Factors.{numberAt}
 use Rattle.binomials.proofs.Tested.{oddBelow, twosBelow, carries, made-of}
 
 -- the parts that are asked for at turn i

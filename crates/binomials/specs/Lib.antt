@@ -1,3 +1,2 @@
 -- What the coefficients are made of: the factorials' odd parts and factors 2.
-pub mod Factorials
-pub mod Factors
+pub mod inner

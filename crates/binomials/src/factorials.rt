@@ -2,7 +2,7 @@
 ghost use mathlib.Core.Path.{_≡_};
 ghost use Prim.Native.Nat.{_-_, _≤_};
 ghost use lib.ListN.{getD};
-ghost use Rattle.binomials.specs.Factorials.{partsOf, lastColumns};
+ghost use Rattle.binomials.specs.inner.Factorials.{partsOf, lastColumns};
 
 // Of a factorial: its odd part modulo 2^64, the inverse of that modulo 2^64, and how often 2 divides it.
 pub struct Parts(pub u64, pub u64, pub u64);

@@ -5,7 +5,7 @@ ghost use Prim.Native.Nat.{_*_, _%_, _≤_, _<_, _^_};
 ghost use lib.Dec.{ltb};
 ghost use Rattle.numbers.specs.Limits.{places};
 ghost use Rattle.numbers.specs.Numbers.{choose};
-ghost use Rattle.binomials.specs.Factors.{numberAt};
+ghost use Rattle.binomials.specs.inner.Factors.{numberAt};
 
 mod factorials;
 

@@ -9,7 +9,7 @@ use lib.ListN.{length, take, drop, set, length-append}
 use lib.Seq.{take-suc-set, length-take-le, take-at}
 use borrow.Rule.Slice.PartMut.{putMid}
 use Rattle.listings.specs.Bytes.{Bytes}
-use Rattle.columns.specs.Writing.{Wrote}
+use Rattle.columns.specs.inner.Writing.{Wrote}
 
 pub wrote-nothing : (d : Bytes) (at : ℕ) → Wrote d at d at []
 wrote-nothing d at = record { till = omega arith; bytes = rw append-nil }

@@ -3,7 +3,7 @@ ghost use mathlib.Core.Path.{_≡_};
 ghost use Prim.Native.Nat.{_≤_};
 ghost use lib.ListN.{length};
 ghost use Rattle.columns.specs.Fields.{fieldWidth, digits as digitsOf, field as fieldOf};
-ghost use Rattle.columns.specs.Writing.{valueAs};
+ghost use Rattle.columns.specs.inner.Writing.{valueAs};
 
 // The columns of a field, and the largest number that they show.
 pub const WIDTH: usize = 4;

@@ -4,7 +4,7 @@ ghost use mathlib.Core.List.{_∷_, []};
 ghost use Prim.Native.Nat.{_+_, _≤_};
 ghost use lib.ListN.{length, replicate};
 ghost use Rattle.columns.specs.Columns.{blank, column, justified};
-ghost use Rattle.columns.specs.Writing.{Wrote};
+ghost use Rattle.columns.specs.inner.Writing.{Wrote};
 
 pub mod fields;
 

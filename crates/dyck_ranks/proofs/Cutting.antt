@@ -15,8 +15,8 @@ use Rattle.listings.specs.Places.{At}
 use Rattle.dyck_words.specs.Objects.{isDyckWord}
 use Rattle.dyck_words.specs.Trees.{Tree, leaf, node, size, word, parse}
 use Rattle.dyck_words.specs.Listing.{dyckWords}
-use Rattle.dyck_words.specs.Reading.{Told}
-use Rattle.dyck_ranks.specs.Shorter.{shorter}
+use Rattle.dyck_words.specs.inner.Reading.{Told}
+use Rattle.dyck_ranks.specs.inner.Shorter.{shorter}
 use Rattle.dyck_words.proofs.Words.{word-length, dyck-cases, dyck-makes}
 use Rattle.dyck_ranks.proofs.RankLaws.{word-at}
 use Rattle.dyck_words.proofs.RowTable.{told-rest, told-part}

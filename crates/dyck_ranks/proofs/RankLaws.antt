@@ -20,7 +20,7 @@ use Rattle.listings.proofs.Members.{length-flatMap}
 use Rattle.listings.proofs.PlaceRules.{at-below, at-exists, at-unique-element, at-append-right, at-map, at-flatMap, length-pairs, at-pairs}
 use Rattle.dyck_words.specs.Trees.{Tree, node, word}
 use Rattle.dyck_words.specs.Listing.{nodes, trees, dyckWords}
-use Rattle.dyck_ranks.specs.Shorter.{shorter}
+use Rattle.dyck_ranks.specs.inner.Shorter.{shorter}
 use Rattle.dyck_words.proofs.TreeLists.{trees-zero, trees-suc, trees-counted}
 use Rattle.dyck_words.proofs.Theorem.{counted}
 

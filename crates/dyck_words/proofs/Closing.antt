@@ -12,7 +12,7 @@ use Rattle.listings.specs.Bytes.{Bytes}
 use Rattle.dyck_words.specs.declared.reading.Read.the-variants.{To}
 use Rattle.dyck_words.specs.Objects.{balancedFrom}
 use Rattle.dyck_words.specs.Trees.{Tree, leaf, node, word}
-use Rattle.dyck_words.specs.Reading.{closing, Fails, RowRead}
+use Rattle.dyck_words.specs.inner.Reading.{closing, Fails, RowRead}
 use Rattle.dyck_words.proofs.Words.{balanced-word}
 
 closing-zero : (x : Bytes) → closing 0 x ≡ 0

@@ -8,7 +8,7 @@ use native.Mathlib.Omega.{arith}
 use lib.ListN.{replicate, replicate-append-replicate}
 use Rattle.numbers.specs.Sums.{range}
 use Rattle.dyck_words.specs.Trees.{word}
-use Rattle.dyck_words.specs.Moves.{firstTree, lastTree}
+use Rattle.dyck_words.specs.inner.Moves.{firstTree, lastTree}
 
 -- the byte of the first word at place i
 abbrev pub bit : ℕ → ℕ

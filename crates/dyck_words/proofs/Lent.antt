@@ -9,7 +9,7 @@ use lib.Seq.{length-take-le, take-all, take-at, drop-at, drop-cons, set-at}
 use borrow.Rule.Slice.PartMut.{midOf, putMid, mid-len, same-len-mid}
 use Rattle.listings.specs.Bytes.{Bytes}
 use Rattle.dyck_words.specs.Trees.{Tree, node, size, word}
-use Rattle.dyck_words.specs.Moves.{Parts}
+use Rattle.dyck_words.specs.inner.Moves.{Parts}
 use Rattle.dyck_words.proofs.Words.{word-length}
 
 -- `&mut x[a..]`

@@ -16,7 +16,7 @@ use Rattle.listings.specs.Bytes.{Bytes}
 use Rattle.dyck_words.specs.declared.reading.Read.{Read}
 use Rattle.dyck_words.specs.declared.reading.Read.the-variants.{To, Broken}
 use Rattle.dyck_words.specs.Objects.{balancedFrom, isDyckWord}
-use Rattle.dyck_words.specs.Reading.{closing, Passed, Fails, RowRead, BranchRead}
+use Rattle.dyck_words.specs.inner.Reading.{closing, Passed, Fails, RowRead, BranchRead}
 
 -- what one byte does to the test
 

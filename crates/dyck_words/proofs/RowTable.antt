@@ -11,7 +11,7 @@ use lib.Seq.{getD-append-add, getD-set-same, getD-set-other}
 use Rattle.numbers.specs.Limits.{longestObject}
 use Rattle.listings.specs.Bytes.{Bytes}
 use Rattle.dyck_words.specs.Trees.{Tree, leaf, node, word}
-use Rattle.dyck_words.specs.Reading.{RowHere, Stops, Told}
+use Rattle.dyck_words.specs.inner.Reading.{RowHere, Stops, Told}
 
 -- the table has the rows that start with at most d bytes left
 pub record Filled (x rows : Bytes) (d : ℕ) : Type 0 where

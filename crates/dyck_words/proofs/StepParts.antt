@@ -8,8 +8,8 @@ use Rattle.listings.specs.Bytes.{Bytes}
 use Rattle.listings.specs.declared.Step.{Step}
 use Rattle.listings.specs.declared.Step.the-variants.{Moved, End}
 use Rattle.dyck_words.specs.Trees.{Tree, leaf, node, word, parse}
-use Rattle.dyck_words.specs.Reading.{Told}
-use Rattle.dyck_words.specs.Moves.{AfterStep, Parts}
+use Rattle.dyck_words.specs.inner.Reading.{Told}
+use Rattle.dyck_words.specs.inner.Moves.{AfterStep, Parts}
 use Rattle.dyck_words.proofs.Words.{parse-word}
 use Rattle.dyck_words.proofs.RowTable.{told-rest, told-part}
 use Rattle.dyck_words.proofs.Lent.{restPart, withRest, insidePart, withInside, rest-lent, rest-put, inside-lent, inside-put}

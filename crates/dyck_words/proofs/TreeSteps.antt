@@ -11,7 +11,7 @@ use Rattle.listings.proofs.LoehrRules.{follows-pairs-inside, follows-pairs-seam
 use Rattle.listings.proofs.PlaceRules.{follows-flatMap-inside, follows-flatMap-seam, first-flatMap, last-flatMap}
 use Rattle.dyck_words.specs.Trees.{Tree, leaf, node, size}
 use Rattle.dyck_words.specs.Listing.{nodes, trees}
-use Rattle.dyck_words.specs.Moves.{firstTree, lastTree, Onward, Backward, AtFirst, AtLast}
+use Rattle.dyck_words.specs.inner.Moves.{firstTree, lastTree, Onward, Backward, AtFirst, AtLast}
 use Rattle.dyck_words.proofs.TreeLists.{trees-zero, trees-suc, trees-every}
 
 -- where the numbers of a range stand

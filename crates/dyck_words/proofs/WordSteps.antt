@@ -14,7 +14,7 @@ use Rattle.listings.proofs.Stepping.{next-steps, next-ends, previous-steps, pre
 use Rattle.dyck_words.specs.Objects.{isDyckWord}
 use Rattle.dyck_words.specs.Trees.{Tree, size, word, parse, dyckBefore}
 use Rattle.dyck_words.specs.Listing.{trees, dyckWords}
-use Rattle.dyck_words.specs.Moves.{firstTree, lastTree, Onward, Backward, MovedOn, MovedBack}
+use Rattle.dyck_words.specs.inner.Moves.{firstTree, lastTree, Onward, Backward, MovedOn, MovedBack}
 use Rattle.dyck_words.proofs.Words.{dyck-cases}
 use Rattle.dyck_words.proofs.Theorem.{lists}
 use Rattle.dyck_words.proofs.TreeSteps.{first-tree, last-tree}

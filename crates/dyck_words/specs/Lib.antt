@@ -2,5 +2,4 @@
 pub mod Objects
 pub mod Trees
 pub mod Listing
-pub mod Reading
-pub mod Moves
+pub mod inner

@@ -5,7 +5,7 @@ ghost use mathlib.Core.Path.{_≡_};
 ghost use Prim.Native.Nat.{ℕ, _+_, _≤_, _<_, _^_};
 ghost use lib.ListN.{length, getD};
 ghost use Rattle.numbers.specs.Limits.{longestObject};
-ghost use Rattle.dyck_words.specs.Reading.{RowRead, BranchRead, RowHere, Told};
+ghost use Rattle.dyck_words.specs.inner.Reading.{RowRead, BranchRead, RowHere, Told};
 ghost use Rattle.dyck_words.specs.Trees.{Tree, node, word};
 use numbers::LONGEST_OBJECT;
 

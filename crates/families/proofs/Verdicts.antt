@@ -16,7 +16,8 @@ use Rattle.families.specs.declared.table.Size.{Size}
 use Rattle.families.specs.Table.{Lent}
 use Rattle.families.specs.Families.{always, askedOfAll, allowed, objectLength, listing, countOf}
 use Rattle.families.specs.Questions.{asked, isIn, put, rankGiven, opening, closingFor, refusal}
-use Rattle.families.specs.Answers.{verdictAs, sizeAs}
+use Rattle.families.specs.Answers.{verdictAs}
+use Rattle.families.specs.inner.Sizes.{sizeAs}
 use Rattle.families.proofs.QuestionLaws.{after-pass, after-no, left-passes, right-passes, is-put, closing-passes}
 use Rattle.families.proofs.QuestionLaws as laws
 use Rattle.families.proofs.FamilyFacts.{allowed-asked}

@@ -11,7 +11,6 @@ use Rattle.families.specs.declared.Stepped.{Stepped}
 use Rattle.families.specs.declared.Length.{Length}
 use Rattle.families.specs.declared.questions.Call.{Call}
 use Rattle.families.specs.declared.questions.Verdict.{Verdict}
-use Rattle.families.specs.declared.table.Size.{Size}
 
 -- a call of the code
 abbrev pub callAs : Call → CallOf
@@ -27,12 +26,6 @@ callAs (Call.Unrank r) = UNRANK r
 abbrev pub verdictAs : Verdict → Option ℕ
 verdictAs Verdict.Pass = none
 verdictAs (Verdict.No q) = some q
-
--- questions 5 and 8 for a rank
-abbrev pub sizeAs : Size → Option ℕ
-sizeAs Size.Below = none
-sizeAs Size.Beyond = some 8
-sizeAs Size.TooLarge = some 5
 
 -- COUNT's answers
 abbrev pub countedAs : Counted → Answer

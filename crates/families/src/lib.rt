@@ -9,7 +9,8 @@ ghost use Rattle.families.specs.Families.{isObject, countOf};
 ghost use Rattle.families.specs.Questions.{rankRefusal};
 ghost use Rattle.families.specs.Questions.{opening as openingOf};
 ghost use Rattle.families.specs.Calls.{respond, measured};
-ghost use Rattle.families.specs.Answers.{callAs, verdictAs, sizeAs, countedAs, rankedAs, writtenAs, steppedAs, lengthAs};
+ghost use Rattle.families.specs.inner.Sizes.{sizeAs};
+ghost use Rattle.families.specs.Answers.{callAs, verdictAs, countedAs, rankedAs, writtenAs, steppedAs, lengthAs};
 
 pub mod codes;
 mod kinds;

@@ -11,7 +11,7 @@ ghost use Rattle.counting.specs.Answers.{fits as fitsOf};
 ghost use Rattle.families.specs.Table.{lent};
 ghost use Rattle.families.specs.Families.{row, isKind, inTable, listsFit, allowed, objectLength, countOf};
 ghost use Rattle.families.specs.Questions.{rankRefusal};
-ghost use Rattle.families.specs.Answers.{sizeAs};
+ghost use Rattle.families.specs.inner.Sizes.{sizeAs};
 use crate::Family;
 use crate::Lists;
 use counting::Count;

@@ -10,7 +10,7 @@ use borrow.Author.Tests.{eqb-true, eq-eqb, leb-true, le-leb, ltb-true, lt-ltb, l
 use Rattle.numbers.specs.Limits.{places}
 use Rattle.numbers.specs.Sums.{range}
 use Rattle.numbers.specs.Numbers.{partsFrom, partitionsOf}
-use Rattle.partition_numbers.specs.Words.{words}
+use Rattle.partition_numbers.specs.inner.Words.{words}
 use Rattle.partition_numbers.proofs.Columns.{column, grow, holds, tests, every}
 
 -- where the number at e of column j stands, 161 too far

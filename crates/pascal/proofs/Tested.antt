@@ -9,7 +9,7 @@ use Rattle.numbers.specs.Numbers.{choose}
 use Rattle.numbers.proofs.Binomials.{pascal-weighted}
 use Rattle.numbers.proofs.Tables.{same, carried}
 use Rattle.numbers.proofs.Weighted.{rows, computed-at}
-use Rattle.pascal.specs.Triangle.{Triangle}
+use Rattle.pascal.specs.inner.Triangle.{Triangle}
 
 -- each number is what the addition rule makes of the row above it
 pub ruled : (t : List ℕ) → same t (rows (λ k. 1) 68 (1 ∷ [])) ≡ true → Triangle t

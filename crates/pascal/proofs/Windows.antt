@@ -7,7 +7,7 @@ use native.Mathlib.Nat.{add-zero, add-suc, suc-add, le-trans}
 use native.Mathlib.Omega.{arith}
 use lib.ListN.{getD}
 use Rattle.numbers.specs.Numbers.{choose}
-use Rattle.pascal.specs.Window.{back}
+use Rattle.pascal.specs.inner.Window.{back}
 use Rattle.numbers.proofs.Binomials.{choose-mono}
 
 -- a row up: an entry and its right neighbour in the window

@@ -2,7 +2,7 @@
 ghost use mathlib.Core.Path.{_≡_};
 ghost use Prim.Native.Nat.{_+_, _*_, _/_, _≤_};
 ghost use Rattle.numbers.specs.Numbers.{choose};
-ghost use Rattle.pascal.specs.Triangle.{lastRow, Triangle};
+ghost use Rattle.pascal.specs.inner.Triangle.{lastRow, Triangle};
 
 // Where the entry k of row n stands in a triangle that is written row after row.
 fn place(n: u64, k: u64) -> usize

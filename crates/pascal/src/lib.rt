@@ -4,7 +4,7 @@ ghost use mathlib.Core.Path.{_≡_};
 ghost use Prim.Native.Nat.{_≤_, _<_, _^_};
 ghost use Rattle.numbers.specs.Limits.{places};
 ghost use Rattle.numbers.specs.Numbers.{choose};
-ghost use Rattle.pascal.specs.Triangle.{Triangle};
+ghost use Rattle.pascal.specs.inner.Triangle.{Triangle};
 
 mod lent;
 mod triangle;

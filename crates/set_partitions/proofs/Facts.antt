@@ -13,7 +13,7 @@ use borrow.Author.Tests.{leb-true, le-leb, lt-ltb, le-ltb, eqb-true, eq-eqb}
 use Rattle.listings.specs.Bytes.{Bytes}
 use Rattle.listings.proofs.Bools.{and-true, and-makes}
 use Rattle.set_partitions.specs.Objects.{opens, isSetPartition, keyOf, keys}
-use Rattle.set_partitions.specs.Keys.{othersIn, blockOf}
+use Rattle.set_partitions.specs.inner.Keys.{othersIn, blockOf}
 
 -- the first model, with m blocks used before it
 

@@ -11,7 +11,7 @@ use borrow.Author.Tests.{eqb-true}
 use Rattle.listings.specs.Bytes.{Bytes}
 use Rattle.set_partitions.specs.Objects.{opens}
 use Rattle.set_partitions.specs.Listing.{setPartitions}
-use Rattle.set_partitions.specs.Moves.{Reached}
+use Rattle.set_partitions.specs.inner.Moves.{Reached}
 use Rattle.set_partitions.proofs.Facts.{opens-cases}
 
 -- a model whose key cannot move leaves those up to it at the end E, the first or the last, and its block is the highest

@@ -6,9 +6,9 @@ use Prim.Native.Nat.{ℕ, zero, suc, _-_, _≤_, _<_}
 use native.Mathlib.Omega.{arith}
 use lib.ListN.{getD}
 use Rattle.numbers.specs.Numbers.{stirlingOf}
-use Rattle.stirlings.specs.Band.{capacity, Reaches}
+use Rattle.stirlings.specs.inner.Band.{capacity, Reaches}
 use Rattle.stirlings.proofs.Walk.{to-alone, to-joined, row-back, number, within}
-use Rattle.set_partitions.specs.Keys.{othersIn, backBy}
+use Rattle.set_partitions.specs.inner.Keys.{othersIn, backBy}
 
 module _ (t : List ℕ) (w at n k : ℕ) (r : Reaches t w at n k) (some : 1 ≤ k) (fewer : k < n) where
   alone-next : Reaches t w (at - 1) (n - 1) (k - 1)

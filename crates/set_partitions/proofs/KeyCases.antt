@@ -5,7 +5,7 @@ use Prim.Native.Nat.{ℕ, zero, suc, _+_, _-_, _*_, _/_, _%_, _≤_, _<_}
 use native.Mathlib.Nat.{div-add-mod', mod-lt}
 use native.Mathlib.Numerals.{add-one}
 use native.Mathlib.Omega.{arith}
-use Rattle.set_partitions.specs.Keys.{othersIn, blockOf, having, earlierBy, Placed, backBy}
+use Rattle.set_partitions.specs.inner.Keys.{othersIn, blockOf, having, earlierBy, Placed, backBy}
 
 module _ (a j : ℕ) where
   pub earlier-none : (c : ℕ) → c ≡ 0 → 0 ≡ earlierBy c a j

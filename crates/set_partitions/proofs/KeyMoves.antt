@@ -16,7 +16,7 @@ use Rattle.listings.specs.Places.{First, Last, Follows}
 use Rattle.listings.proofs.Bools.{and-true, or-cases}
 use Rattle.set_partitions.specs.Objects.{opens}
 use Rattle.set_partitions.specs.Listing.{setPartitions}
-use Rattle.set_partitions.specs.Moves.{rises, sinks, Reached}
+use Rattle.set_partitions.specs.inner.Moves.{rises, sinks, Reached}
 use Rattle.set_partitions.proofs.Theorem.{some-partition}
 use Rattle.set_partitions.proofs.KeySteps.{first-alone, first-joined, last-alone, last-joined, up-joined, up-alone}
 use Rattle.set_partitions.proofs.KeyEnds.{none-first, none-last}

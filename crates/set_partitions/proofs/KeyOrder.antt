@@ -23,7 +23,7 @@ use Rattle.listings.proofs.OrderFacts.{colex-irreflexive, colex-transitive, col
 use Rattle.set_partitions.specs.Objects.{isSetPartition, keys, setPartitionBefore}
 use Rattle.set_partitions.specs.Listing.{keysInOrder}
 use Rattle.set_partitions.proofs.Facts.{partition-cases, keys-long, keys-one, keys-put-on}
-use Rattle.set_partitions.specs.Keys.{othersIn, blockOf}
+use Rattle.set_partitions.specs.inner.Keys.{othersIn, blockOf}
 
 -- the smaller key comes first
 abbrev pub keyBefore : ℕ → ℕ → Bool

@@ -11,7 +11,7 @@ use Rattle.listings.specs.Bytes.{Bytes}
 use Rattle.listings.specs.Places.{At, Follows, First, Last}
 use Rattle.listings.proofs.PlaceRules.{at-map, at-flatMap, first-append, first-append-empty, last-append-empty, first-map, last-map, first-flatMap, last-flatMap, follows-flatMap-seam}
 use Rattle.set_partitions.specs.Listing.{keysInOrder, setPartitions}
-use Rattle.set_partitions.specs.Keys.{othersIn, blockOf}
+use Rattle.set_partitions.specs.inner.Keys.{othersIn, blockOf}
 use Rattle.set_partitions.proofs.KeyOrder.{first-key, last-key, next-key, at-key, keys-before}
 use Rattle.set_partitions.proofs.Theorem.{behind, added, by-key, counted-keys, no-partition}
 

@@ -15,9 +15,9 @@ use Rattle.listings.specs.Places.{At, countBefore}
 use Rattle.listings.proofs.PlaceRules.{at-below}
 use Rattle.listings.proofs.Ranks.{place-is-rank}
 use Rattle.listings.proofs.Stepping.{at-rank}
-use Rattle.set_partitions.specs.Objects.{isSetPartition, keys, KeysOf, setPartitionBefore}
+use Rattle.set_partitions.specs.Objects.{isSetPartition, keys, setPartitionBefore}
 use Rattle.set_partitions.specs.Listing.{setPartitions}
-use Rattle.set_partitions.specs.Keys.{othersIn, blockOf, earlierBy}
+use Rattle.set_partitions.specs.inner.Keys.{othersIn, blockOf, earlierBy, KeysOf}
 use Rattle.set_partitions.proofs.Facts.{keys-long, partition-cases, partition-ends, keys-put-on, Taken, take-off}
 use Rattle.set_partitions.proofs.Theorem.{counted, lists, some-partition}
 use Rattle.set_partitions.proofs.KeySteps.{at-alone, at-joined}

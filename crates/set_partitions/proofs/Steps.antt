@@ -14,7 +14,7 @@ use Rattle.listings.specs.Places.{Follows}
 use Rattle.listings.proofs.PlaceRules.{follows-map, follows-flatMap-inside}
 use Rattle.set_partitions.specs.Objects.{opens}
 use Rattle.set_partitions.specs.Listing.{setPartitions}
-use Rattle.set_partitions.specs.Keys.{othersIn}
+use Rattle.set_partitions.specs.inner.Keys.{othersIn}
 use Rattle.set_partitions.proofs.Facts.{Opened, opens-cases, key-found}
 use Rattle.set_partitions.proofs.KeyOrder.{key-listed}
 use Rattle.set_partitions.proofs.Theorem.{behind, added, by-key}

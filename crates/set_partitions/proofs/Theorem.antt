@@ -20,7 +20,7 @@ use Rattle.listings.proofs.Members.{flatMap-in, flatMap-of, length-flatMap}
 use Rattle.set_partitions.specs.Objects.{opens, isSetPartition, setPartitionBefore}
 use Rattle.set_partitions.specs.Listing.{keysInOrder, withKey, setPartitions}
 use Rattle.set_partitions.proofs.Facts.{partition-cases, partition-none, partition-ends, put-on, take-off}
-use Rattle.set_partitions.specs.Keys.{othersIn, blockOf}
+use Rattle.set_partitions.specs.inner.Keys.{othersIn, blockOf}
 use Rattle.set_partitions.proofs.KeyOrder.{keyBefore, keys-ascend, key-listed, listed-key, over-keys, before-less, before-tie, before-strict}
 
 pub long : (n k : ℕ) (x : Bytes) → isSetPartition n k x ≡ true → length x ≡ n

@@ -16,7 +16,7 @@ use Rattle.numbers.proofs.Ranges.{range-add, length-range}
 use Rattle.listings.specs.Bytes.{Bytes}
 use Rattle.listings.specs.Places.{At}
 use Rattle.set_partitions.specs.Listing.{setPartitions}
-use Rattle.set_partitions.specs.Keys.{othersIn, blockOf, having, earlierBy, Placed, Written}
+use Rattle.set_partitions.specs.inner.Keys.{othersIn, blockOf, having, earlierBy, Placed, Written}
 use Rattle.set_partitions.proofs.KeyEnds.{first-is}
 use Rattle.set_partitions.proofs.Parts.{rest-kept}
 use Rattle.set_partitions.proofs.Ranking.{at-key}

@@ -1,5 +1,4 @@
 -- Kind 4: what a set partition is, which of two comes first, and the listing of them all.
 pub mod Objects
 pub mod Listing
-pub mod Moves
-pub mod Keys
+pub mod inner

@@ -1,6 +1,5 @@
 -- Kind 4, set partitions ("flask sharing"): the test of being one of n models into k blocks, the keys, and the order.
 -- Assumes nothing.
-use mathlib.Core.Path.{_≡_}
 use mathlib.Core.Bool.{Bool, true, false, _&&_}
 use mathlib.Core.List.{[], _∷_}
 use Prim.Native.Nat.{ℕ, suc, max}
@@ -27,12 +26,6 @@ keyOf false b = b
 unfoldable pub keys : ℕ → Bytes → Bytes
 keys m [] = []
 keys m (b ∷ x) = keyOf (ltb m b) b ∷ keys (max m b) x
-
--- ks are the keys of a partition of n models into k blocks
-pub record KeysOf (n k : ℕ) (ks : Bytes) : Type 0 where
-  pub object : Bytes
-  pub parted : isSetPartition n k object ≡ true
-  pub same : ks ≡ keys 0 object
 
 -- "At the largest i whose keys differ, the smaller key"
 unfoldable pub setPartitionBefore : Bytes → Bytes → Bool

@@ -5,7 +5,7 @@ ghost use lib.Dec.{ltb};
 ghost use lib.ListN.{length, take};
 ghost use Rattle.numbers.specs.Limits.{longestObject};
 ghost use Rattle.set_partitions.specs.Objects.{keyOf, keys as keysIn};
-ghost use Rattle.set_partitions.specs.Moves.{rises, sinks, Reached};
+ghost use Rattle.set_partitions.specs.inner.Moves.{rises, sinks, Reached};
 use numbers::LONGEST_OBJECT;
 
 // Can the key of a model in block b go up, behind as many models as its place says and the last of them in block `used`?

@@ -16,7 +16,7 @@ use Rattle.columns.specs.Columns.{newline}
 use Rattle.slip.specs.Grammar.{Slip, consField, fields, line, countsOn, secondLine, handedOn, withCounts, slipWith}
 use Rattle.columns.specs.Fields.{fieldWidth, field}
 use Rattle.slip.specs.Sizes.{lineWidth}
-use Rattle.slip.specs.Reading.{AtMost}
+use Rattle.slip.specs.inner.Reading.{AtMost}
 use Rattle.slip.specs.declared.grammar.Parsed.the-variants.{Slip as Read, Malformed}
 
 -- counts in front of those that the rest of a line gives

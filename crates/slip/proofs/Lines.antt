@@ -22,7 +22,7 @@ use Rattle.families.specs.Calls.{respond}
 use Rattle.columns.specs.Columns.{newline}
 use Rattle.slip.specs.Sizes.{listedAtMost}
 use Rattle.slip.specs.Text.{wordEnd, wordMore, familyColumns, firstLine, objectLine, objectLines, lastLine, body, listedText, said, familyText}
-use Rattle.columns.specs.Writing.{Wrote}
+use Rattle.columns.specs.inner.Writing.{Wrote}
 use Rattle.columns.proofs.Writes.{then}
 
 bytes-snoc : (g : ℕ → Bytes) (x : Bytes) (i : ℕ) → i < length x → flatMap g (take (suc i) x) ≡ flatMap g (take i x) ++ g (getD x i 0)

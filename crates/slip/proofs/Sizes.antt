@@ -23,7 +23,7 @@ use Rattle.columns.specs.Fields.{fieldWidth}
 use Rattle.slip.specs.Grammar.{Slip, slipOf}
 use Rattle.slip.specs.Sizes.{countWidth, familyWidth, objectLineWidth, lastLineWidth, refusedWidth, listedAtMost, longestBody, largest}
 use Rattle.slip.specs.Text.{wordEnd, wordMore, wordMany, familyColumns, firstLine, objectLine, objectLines, lastLine, body, listedText, refusedText, said, familyText, lentBy, textOf, output}
-use Rattle.columns.specs.Writing.{Wrote}
+use Rattle.columns.specs.inner.Writing.{Wrote}
 use Rattle.slip.specs.Rendering.{Renders}
 use Rattle.columns.proofs.ColumnLaws.{length-column}
 use Rattle.slip.proofs.Lines.{upTo}

@@ -3,5 +3,5 @@
 pub mod Sizes
 pub mod Grammar
 pub mod Text
-pub mod Reading
 pub mod Rendering
+pub mod inner

@@ -9,9 +9,9 @@ ghost use mathlib.Core.Path.{_≡_};
 ghost use Prim.Native.Nat.{_+_, _*_, _≤_, min};
 ghost use lib.ListN.{length, take, drop};
 ghost use Rattle.columns.specs.Fields.{fieldWidth, field as fieldOf};
-ghost use Rattle.columns.specs.Writing.{valueAs};
+ghost use Rattle.columns.specs.inner.Writing.{valueAs};
 ghost use Rattle.slip.specs.Grammar.{fields, countsOn, handedOn, slipWith, slipOf};
-ghost use Rattle.slip.specs.Reading.{countsAs, parsedAs, AtMost};
+ghost use Rattle.slip.specs.inner.Reading.{countsAs, parsedAs, AtMost};
 ghost use Rattle.slip.specs.Sizes.{mostCounts};
 
 // A well-formed slip: its family, and how many counts stand in the buffer; or a malformed one.

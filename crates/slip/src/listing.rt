@@ -25,7 +25,7 @@ ghost use Rattle.families.specs.Table.{lent};
 ghost use Rattle.families.specs.Families.{allowed, objectLength, listing};
 ghost use Rattle.columns.specs.Columns.{column};
 ghost use Rattle.columns.specs.Fields.{fieldWidth};
-ghost use Rattle.columns.specs.Writing.{Wrote};
+ghost use Rattle.columns.specs.inner.Writing.{Wrote};
 ghost use Rattle.slip.specs.Sizes.{countWidth, familyWidth, objectLineWidth, lastLineWidth, refusedWidth, longestBody, largest};
 ghost use Rattle.slip.specs.Text.{wordEnd, wordMore, familyColumns, objectLine, lastLine, body, listedText, refusedText, said, familyText};
 

@@ -6,7 +6,7 @@ use native.Mathlib.Nat.{mul-le-mul, mul-suc, suc-mul, mul-one}
 use native.Mathlib.Omega.{arith}
 use Rattle.numbers.specs.Numbers.{stirlingOf}
 use Rattle.numbers.proofs.Stirlings.{stirling-rule, stirling-all, stirling-zero, stirling-one}
-use Rattle.stirling_rows.specs.Stored.{lastRow}
+use Rattle.stirling_rows.specs.inner.Stored.{lastRow}
 
 pub short : (n k : ℕ) → k < 2 → k < n → k ≡ stirlingOf n k
 short n zero few fewer = sym (stirling-zero n (omega arith))

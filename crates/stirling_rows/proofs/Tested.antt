@@ -15,8 +15,8 @@ use Rattle.numbers.proofs.Stirlings.{stirling-weighted}
 use Rattle.numbers.proofs.Triangles.{row}
 use Rattle.numbers.proofs.Weighted.{step}
 use Rattle.numbers.proofs.WeightedTests.{holds, tests, every}
-use Rattle.stirling_rows.specs.Stored.{lastRow}
-use Rattle.stirling_rows.specs.Inner.{numbers}
+use Rattle.stirling_rows.specs.inner.Stored.{lastRow}
+use Rattle.stirling_rows.specs.inner.Literals.{numbers}
 
 -- where the number of n models in k blocks stands, as `entry` works it out
 abbrev pub place : ℕ → ℕ → ℕ

@@ -1,3 +1,2 @@
 -- The numbers that the small Stirling numbers are read from.
-pub mod Stored
-pub mod Inner
+pub mod inner

@@ -3,7 +3,7 @@
 ghost use mathlib.Core.Path.{_≡_};
 ghost use Prim.Native.Nat.{_-_, _≤_, _<_};
 ghost use Rattle.numbers.specs.Numbers.{stirlingOf};
-ghost use Rattle.stirling_rows.specs.Stored.{lastRow};
+ghost use Rattle.stirling_rows.specs.inner.Stored.{lastRow};
 
 mod inner;
 

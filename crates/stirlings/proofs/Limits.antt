@@ -16,8 +16,8 @@ use Rattle.numbers.specs.Sums.{range}
 use Rattle.numbers.proofs.Stirlings.{stirling-weighted}
 use Rattle.numbers.proofs.Triangles.{row}
 use Rattle.numbers.proofs.Weighted.{step}
-use Rattle.stirling_rows.specs.Stored.{lastRow}
-use Rattle.stirlings.specs.Band.{capacity, LastColumn}
+use Rattle.stirling_rows.specs.inner.Stored.{lastRow}
+use Rattle.stirlings.specs.inner.Band.{capacity, LastColumn}
 use Rattle.numbers.proofs.WeightedTests.{holds, tests, every}
 
 -- row by row, the last column whose number is below 2^64

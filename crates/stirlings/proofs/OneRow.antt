@@ -8,7 +8,7 @@ use native.Mathlib.Omega.{arith}
 use lib.ListN.{length, getD, set, replicate, length-set, length-replicate, getD-replicate}
 use lib.Seq.{getD-set-same, getD-set-other}
 use Rattle.numbers.specs.Limits.{places}
-use Rattle.stirlings.specs.Band.{Row}
+use Rattle.stirlings.specs.inner.Band.{Row}
 use Rattle.stirlings.proofs.Laws.{band, left-of, rule, first-row}
 use Rattle.stirlings.proofs.Rows.{here-or}
 

@@ -9,7 +9,7 @@ use native.Mathlib.Decide.{decLe}
 use native.Mathlib.Omega.{arith}
 use lib.ListN.{length, getD, set, length-set}
 use lib.Seq.{getD-set-same, getD-set-other}
-use Rattle.stirlings.specs.Band.{capacity, Filled}
+use Rattle.stirlings.specs.inner.Band.{capacity, Filled}
 use Rattle.stirlings.proofs.Laws.{band, left-of, rule}
 
 -- the first j numbers of row d stand from at on, left is the last of them, and all before at is as it was

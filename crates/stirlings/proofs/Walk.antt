@@ -7,7 +7,7 @@ use native.Mathlib.Nat.{suc-mul, mul-le-mul, zero-mul, le-refl}
 use native.Mathlib.Omega.{arith}
 use lib.ListN.{getD, replicate, length-replicate, getD-replicate}
 use Rattle.numbers.specs.Numbers.{stirlingOf}
-use Rattle.stirlings.specs.Band.{capacity, Filled, Reaches}
+use Rattle.stirlings.specs.inner.Band.{capacity, Filled, Reaches}
 use Rattle.stirlings.proofs.Laws.{band, first-row}
 
 -- a list of ones has row 0; its length is a variable here, so that the list is not written out

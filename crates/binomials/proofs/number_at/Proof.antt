@@ -3,7 +3,7 @@
 use mathlib.Core.Path.{_≡_, refl}
 use Prim.Native.Nat.{ℕ, zero, suc, _-_}
 use borrow.Author.Needs.{needs}
-use Rattle.binomials.specs.Factors.{numberAt}
+use Rattle.binomials.specs.inner.Factors.{numberAt}
 use Rattle.binomials.proofs.number_at.Statement.{statement}
 use Rattle.binomials.proofs.number_at.Tie as tie
 

@@ -1,7 +1,7 @@
 -- `dyck_words::is_object` meets its contract: the row from the start comes to the end of a Dyck word only.
 -- Assumes nothing.
 use mathlib.Core.Path.{subst}
-use Rattle.dyck_words.specs.Reading.{RowRead}
+use Rattle.dyck_words.specs.inner.Reading.{RowRead}
 use Rattle.dyck_words.proofs.Passing.{wrong-length, no-object, row-tells}
 use borrow.Author.Needs.{needs}
 use Rattle.dyck_words.proofs.is_object.Statement.{statement}

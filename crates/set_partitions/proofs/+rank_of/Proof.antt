@@ -5,9 +5,8 @@ use Prim.Native.Nat.{ℕ, _+_, _-_, _<_}
 use native.Mathlib.Omega.{arith}
 use lib.ListN.{take, getD}
 use Rattle.numbers.specs.Numbers.{stirlingOf}
-use Rattle.set_partitions.specs.Objects.{KeysOf}
-use Rattle.set_partitions.specs.Keys.{earlierBy}
-use Rattle.stirlings.specs.Band.{Reaches}
+use Rattle.set_partitions.specs.inner.Keys.{earlierBy, KeysOf}
+use Rattle.stirlings.specs.inner.Band.{Reaches}
 use borrow.Author.Needs.{needs}
 use Rattle.set_partitions.proofs.Ranking.{rankOf, RankBy, no-other, Ending, at-end, the-others, summed}
 use Rattle.set_partitions.proofs.InBand.{one-before, row-before, alone-within, joined-within, alone-number, joined-number, back-le, to-others}

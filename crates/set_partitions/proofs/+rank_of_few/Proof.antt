@@ -5,8 +5,7 @@ use Prim.Native.Nat.{ℕ, _+_, _-_, _<_}
 use native.Mathlib.Omega.{arith}
 use lib.ListN.{take, getD}
 use Rattle.numbers.specs.Numbers.{stirlingOf}
-use Rattle.set_partitions.specs.Objects.{KeysOf}
-use Rattle.set_partitions.specs.Keys.{earlierBy}
+use Rattle.set_partitions.specs.inner.Keys.{earlierBy, KeysOf}
 use Rattle.set_partitions.proofs.Ranking.{rankOf, RankBy, no-other, Ending, at-end, the-others, summed}
 use borrow.Fn.Kinds.{In}
 use borrow.Fn.PlainCycle.{Measures, is, falls, and}

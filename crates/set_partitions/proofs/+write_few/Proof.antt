@@ -5,7 +5,7 @@ use Prim.Native.Nat.{ℕ, _-_, _<_}
 use native.Mathlib.Omega.{arith}
 use lib.ListN.{set}
 use Rattle.numbers.specs.Numbers.{stirlingOf}
-use Rattle.set_partitions.specs.Keys.{Placed, Written}
+use Rattle.set_partitions.specs.inner.Keys.{Placed, Written}
 use Rattle.set_partitions.proofs.Unranking.{alone-written, Split, split-last, upto, rest-below, rest-less, written, places-there, still-alone}
 use borrow.Fn.Kinds.{In}
 use borrow.Fn.PlainCycle.{Measures, is, falls, and}

@@ -5,9 +5,9 @@ use Prim.Native.Nat.{ℕ, _-_, _<_}
 use native.Mathlib.Omega.{arith}
 use lib.ListN.{set}
 use Rattle.numbers.specs.Numbers.{stirlingOf}
-use Rattle.set_partitions.specs.Keys.{Placed, Written}
+use Rattle.set_partitions.specs.inner.Keys.{Placed, Written}
 use Rattle.set_partitions.proofs.Unranking.{alone-written, Split, split-last, upto, rest-below, rest-less, written, places-there, still-alone}
-use Rattle.stirlings.specs.Band.{Reaches}
+use Rattle.stirlings.specs.inner.Band.{Reaches}
 use borrow.Author.Needs.{needs}
 use Rattle.set_partitions.proofs.InBand.{one-before, row-before, alone-within, joined-within, alone-number, joined-number, back-le, to-others}
 use borrow.Fn.Kinds.{In}

@@ -4,7 +4,7 @@ use mathlib.Core.Path.{refl}
 use Prim.Native.Nat.{_+_}
 use native.Mathlib.Omega.{arith}
 use lib.ListN.{length}
-use Rattle.stirlings.specs.Band.{capacity}
+use Rattle.stirlings.specs.inner.Band.{capacity}
 use Rattle.stirlings.proofs.Walk.{ones, whole}
 use Rattle.set_partitions.proofs.Ranking.{few-blocks}
 use borrow.Author.Needs.{needs}

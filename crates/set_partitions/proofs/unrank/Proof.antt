@@ -4,7 +4,7 @@ use mathlib.Core.Path.{refl, sym}
 use Prim.Native.Nat.{_+_}
 use native.Mathlib.Omega.{arith}
 use lib.ListN.{length}
-use Rattle.stirlings.specs.Band.{capacity}
+use Rattle.stirlings.specs.inner.Band.{capacity}
 use Rattle.stirlings.proofs.Walk.{ones, whole}
 use Rattle.set_partitions.proofs.Unranking.{few-where-some, first-alone, enough, cut}
 use borrow.Author.Needs.{needs}

@@ -3,7 +3,7 @@
 use mathlib.Core.Path.{refl, sym, _∙_, ap}
 use native.Mathlib.Omega.{arith}
 use lib.Seq.{length-take-le}
-use Rattle.slip.specs.Reading.{parsedAs}
+use Rattle.slip.specs.inner.Reading.{parsedAs}
 use Rattle.slip.specs.Text.{textOf}
 use Rattle.slip.proofs.Sizes.{rendered}
 use borrow.Author.Needs.{needs}

@@ -7,8 +7,8 @@ use lib.ListN.{getD}
 use borrow.Author.Needs.{needs}
 use Rattle.numbers.specs.Numbers.{stirlingOf}
 use Rattle.numbers.proofs.Stirlings.{stirling-all, stirling-zero, stirling-one}
-use Rattle.stirling_rows.specs.Stored.{lastRow}
-use Rattle.stirling_rows.specs.Inner.{numbers}
+use Rattle.stirling_rows.specs.inner.Stored.{lastRow}
+use Rattle.stirling_rows.specs.inner.Literals.{numbers}
 use Rattle.stirling_rows.proofs.Ends.{all-but-one, few-pairs, few-places}
 use Rattle.stirling_rows.proofs.Tested.{place, there}
 use Rattle.stirling_rows.proofs.both.Statement.{statement}

@@ -4,7 +4,7 @@ use mathlib.Core.Path.{_≡_, subst}
 use Prim.Native.Nat.{_+_, _-_, _*_, _≤_}
 use native.Mathlib.Omega.{arith}
 use native.Mathlib.Numerals.{add-one}
-use Rattle.stirlings.specs.Band.{capacity, Filled}
+use Rattle.stirlings.specs.inner.Band.{capacity, Filled}
 use Rattle.stirlings.proofs.Laws.{all-fit}
 use Rattle.stirlings.proofs.Limits.{below}
 use Rattle.stirlings.proofs.Rows.{room}

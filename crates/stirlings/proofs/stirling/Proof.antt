@@ -8,7 +8,7 @@ use borrow.Author.Needs.{needs}
 use Rattle.numbers.specs.Limits.{places}
 use Rattle.numbers.specs.Numbers.{stirlingOf}
 use Rattle.numbers.proofs.Stirlings.{stirling-none}
-use Rattle.stirlings.specs.Band.{Row}
+use Rattle.stirlings.specs.inner.Band.{Row}
 use Rattle.stirlings.proofs.Laws.{all-fit}
 use Rattle.stirlings.proofs.OneRow.{row-of-ones}
 use Rattle.stirlings.proofs.stirling.Statement.{statement}

@@ -10,7 +10,7 @@ use borrow.Author.Needs.{needs}
 use borrow.Author.Tests.{lt-ltb}
 use Rattle.numbers.specs.Numbers.{stirlingOf}
 use Rattle.numbers.proofs.Stirlings.{stirling-none}
-use Rattle.stirling_rows.specs.Stored.{lastRow}
+use Rattle.stirling_rows.specs.inner.Stored.{lastRow}
 use Rattle.stirlings.proofs.Limits.{small}
 use Rattle.stirlings.proofs.stirling_fits.Statement.{statement}
 use Rattle.stirlings.proofs.stirling_fits.Tie as tie

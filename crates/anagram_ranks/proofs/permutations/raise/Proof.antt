@@ -5,7 +5,7 @@ use Prim.Native.Nat.{ℕ, _-_, _≤_}
 use native.Mathlib.Omega.{arith}
 use mathlib.Core.List.{List}
 use lib.ListN.{length, getD, set}
-use Rattle.anagram_ranks.specs.Raised.{raised}
+use Rattle.anagram_ranks.specs.inner.Raised.{raised}
 use Rattle.anagram_ranks.proofs.Raising.{mapped, mapped-next, mapped-more, length-mapped, mapped-all}
 use Rattle.anagram_ranks.proofs.permutations.raise.Statement.{statement}
 use Rattle.anagram_ranks.proofs.permutations.raise.Tie as tie

@@ -4,7 +4,7 @@ use Prim.Native.Nat.{_+_, _<_}
 use native.Mathlib.Omega.{arith}
 use mathlib.Core.Path.{sym, _∙_}
 use lib.ListN.{length, drop, getD}
-use Rattle.anagrams.specs.Directions.{precedesBy, NoneBeyond}
+use Rattle.anagrams.specs.inner.Directions.{precedesBy, NoneBeyond}
 use borrow.Author.Needs.{needs}
 use borrow.Author.Tests.{not-true, not-false}
 use Rattle.anagrams.proofs.Tails.{beyond-none, beyond-more, not-there}

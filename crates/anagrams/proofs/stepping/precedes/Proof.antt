@@ -1,6 +1,6 @@
 -- Whether a letter comes before another, or, going back, after it.
 -- Assumes nothing.
-use Rattle.anagrams.specs.Directions.{precedesBy}
+use Rattle.anagrams.specs.inner.Directions.{precedesBy}
 use Rattle.anagrams.proofs.stepping.precedes.Statement.{statement}
 use Rattle.anagrams.proofs.stepping.precedes.Tie as tie
 

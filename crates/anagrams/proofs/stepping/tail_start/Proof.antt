@@ -4,7 +4,7 @@ use Prim.Native.Nat.{_-_, _≤_}
 use native.Mathlib.Omega.{arith}
 use mathlib.Core.Path.{_≡_, sym, _∙_}
 use lib.ListN.{length, drop, length-drop}
-use Rattle.anagrams.specs.Directions.{Spent}
+use Rattle.anagrams.specs.inner.Directions.{Spent}
 use Rattle.anagrams.proofs.Tails.{spent-short, spent-longer}
 use borrow.Author.Needs.{needs}
 use Rattle.anagrams.proofs.stepping.tail_start.Statement.{statement}

@@ -4,7 +4,7 @@ use mathlib.Core.Path.{_≡_, refl, sym, ap}
 use Prim.Native.Nat.{ℕ, _-_}
 use lib.ListN.{getD}
 use borrow.Author.Needs.{needs}
-use Rattle.binomials.specs.Factorials.{lastColumns}
+use Rattle.binomials.specs.inner.Factorials.{lastColumns}
 use Rattle.numbers.proofs.Past.{past}
 use Rattle.binomials.proofs.factorials.last_column.Statement.{statement}
 use Rattle.binomials.proofs.factorials.last_column.Tie as tie

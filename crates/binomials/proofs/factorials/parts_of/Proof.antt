@@ -3,7 +3,7 @@
 use mathlib.Core.Path.{_≡_, refl, sym, ap}
 use Prim.Native.Nat.{ℕ}
 use Rattle.binomials.specs.declared.factorials.Parts.{Parts}
-use Rattle.binomials.specs.Factorials.{odds, inverses, twos, partsOf}
+use Rattle.binomials.specs.inner.Factorials.{odds, inverses, twos, partsOf}
 use Rattle.numbers.proofs.Past.{past}
 use Rattle.binomials.proofs.factorials.parts_of.Statement.{statement}
 use Rattle.binomials.proofs.factorials.parts_of.Tie as tie

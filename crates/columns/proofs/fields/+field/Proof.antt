@@ -8,7 +8,7 @@ use borrow.Author.Needs.{needs}
 use borrow.Fn.Kinds.{In}
 use borrow.Fn.PlainCycle.{Measures, is, falls, and}
 use Rattle.columns.specs.Fields.{field as fieldOf}
-use Rattle.columns.specs.Writing.{valueAs}
+use Rattle.columns.specs.inner.Writing.{valueAs}
 use Rattle.columns.proofs.FieldLaws.{rest-is, field-none, field-blank, field-lone, field-leading, field-number}
 use Rattle.columns.proofs.fields.field.Reads as field
 use Rattle.columns.proofs.fields.field.Kinds as field-kinds

@@ -8,7 +8,7 @@ use native.Mathlib.Numerals.{add-one}
 use lib.ListN.{length, getD, drop, drop-of-length-le}
 use borrow.Author.Needs.{needs}
 use Rattle.columns.specs.Fields.{digits}
-use Rattle.columns.specs.Writing.{valueAs}
+use Rattle.columns.specs.inner.Writing.{valueAs}
 use Rattle.columns.proofs.FieldLaws.{digit-read, digit-low, digit-high, digits-at, grown}
 use Rattle.columns.proofs.fields.digits.Statement.{statement}
 use Rattle.columns.proofs.fields.digits.Tie as tie

@@ -4,7 +4,7 @@ use mathlib.Core.Path.{_≡_}
 use Prim.Native.Nat.{_+_, _-_, _≤_, _<_}
 use native.Mathlib.Numerals.{add-one}
 use native.Mathlib.Omega.{arith}
-use Rattle.dyck_ranks.specs.Shorter.{shorter}
+use Rattle.dyck_ranks.specs.inner.Shorter.{shorter}
 use Rattle.dyck_ranks.proofs.RankLaws.{shorter-zero, shorter-suc, goes-on}
 use Rattle.dyck_ranks.proofs.ranking.inside_size.Statement.{statement}
 use Rattle.dyck_ranks.proofs.ranking.inside_size.Tie as tie

@@ -4,7 +4,7 @@ use mathlib.Core.Path.{_≡_, sym}
 use Prim.Native.Nat.{suc, _-_, _≤_}
 use native.Mathlib.Numerals.{add-one}
 use native.Mathlib.Omega.{arith}
-use Rattle.dyck_ranks.specs.Shorter.{shorter}
+use Rattle.dyck_ranks.specs.inner.Shorter.{shorter}
 use Rattle.dyck_ranks.proofs.RankLaws.{shorter-zero, shorter-suc, shorter-le}
 use Rattle.dyck_ranks.proofs.ranking.shorter_insides.Statement.{statement}
 use Rattle.dyck_ranks.proofs.ranking.shorter_insides.Tie as tie

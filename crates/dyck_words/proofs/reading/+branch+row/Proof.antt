@@ -6,7 +6,7 @@ use borrow.Author.Needs.{needs}
 use mathlib.Core.Path.{subst}
 use lib.ListN.{length, List·getD-eq-default}
 use Rattle.dyck_words.specs.declared.reading.Read.the-variants.{To}
-use Rattle.dyck_words.specs.Reading.{RowRead, BranchRead}
+use Rattle.dyck_words.specs.inner.Reading.{RowRead, BranchRead}
 use Rattle.dyck_words.proofs.Passing.{row-stays, row-goes, branch-fails, branch-open, branch-stuck, branch-closes}
 use borrow.Fn.Kinds.{In}
 use borrow.Fn.PlainCycle.{Measures, is, falls, and}

@@ -6,7 +6,7 @@ use native.Mathlib.Omega.{arith}
 use lib.ListN.{length}
 use borrow.Author.Needs.{needs}
 use Rattle.dyck_words.specs.declared.reading.Read.the-variants.{To}
-use Rattle.dyck_words.specs.Reading.{RowRead}
+use Rattle.dyck_words.specs.inner.Reading.{RowRead}
 use Rattle.dyck_words.proofs.Closing.{inside-found, never-broken}
 use Rattle.dyck_words.proofs.RowTable.{told-inside}
 use Rattle.dyck_words.proofs.reading.inside_len.Statement.{statement}

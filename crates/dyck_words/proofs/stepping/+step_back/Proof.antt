@@ -8,7 +8,7 @@ use borrow.Author.Needs.{needs}
 use borrow.Fn.Kinds.{In}
 use borrow.Fn.PlainCycle.{Measures, is, falls, and}
 use Rattle.dyck_words.specs.Trees.{Tree, node, size, parse}
-use Rattle.dyck_words.specs.Moves.{lastTree, Backward, AtFirst, MovedBack, Parts}
+use Rattle.dyck_words.specs.inner.Moves.{lastTree, Backward, AtFirst, MovedBack, Parts}
 use Rattle.dyck_words.proofs.Words.{word-length}
 use Rattle.dyck_words.proofs.TreeSteps.{leaf-first, rest-back, inside-back}
 use Rattle.dyck_words.proofs.Lent.{withRest, withInside, whole-long, rest-lent, rest-put, inside-lent}

@@ -6,7 +6,7 @@ use native.Mathlib.Omega.{arith}
 use lib.ListN.{length-set}
 use borrow.Author.Needs.{needs}
 use Rattle.dyck_words.specs.Trees.{node, size}
-use Rattle.dyck_words.specs.Moves.{firstTree}
+use Rattle.dyck_words.specs.inner.Moves.{firstTree}
 use Rattle.dyck_words.proofs.TreeSteps.{no-rest, grows}
 use Rattle.dyck_words.proofs.Lent.{whole-long, inside-long, written}
 use Rattle.dyck_words.proofs.stepping.longer_inside.Statement.{statement}

@@ -3,7 +3,7 @@
 use mathlib.Core.Path.{_≡_, refl, sym, ap}
 use Prim.Native.Nat.{ℕ}
 use lib.ListN.{getD}
-use Rattle.partition_numbers.specs.Words.{words}
+use Rattle.partition_numbers.specs.inner.Words.{words}
 use Rattle.numbers.proofs.Past.{past}
 use Rattle.partition_numbers.proofs.words.word.Statement.{statement}
 use Rattle.partition_numbers.proofs.words.word.Tie as tie

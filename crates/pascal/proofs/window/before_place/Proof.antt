@@ -3,7 +3,7 @@
 use mathlib.Core.Path.{sym, _∙_}
 use borrow.Author.Needs.{needs}
 use Rattle.numbers.proofs.Binomials.{choose-none}
-use Rattle.pascal.specs.Triangle.{lastRow}
+use Rattle.pascal.specs.inner.Triangle.{lastRow}
 use Rattle.pascal.proofs.Windows.{back-before, back-within}
 use Rattle.pascal.proofs.window.before_place.Statement.{statement}
 use Rattle.pascal.proofs.window.before_place.Tie as tie

@@ -7,8 +7,8 @@ use native.Mathlib.Omega.{arith}
 use lib.ListN.{length, getD}
 use borrow.Author.Needs.{needs}
 use Rattle.numbers.specs.Numbers.{choose}
-use Rattle.pascal.specs.Triangle.{lastRow}
-use Rattle.pascal.specs.Window.{width, back, Added}
+use Rattle.pascal.specs.inner.Triangle.{lastRow}
+use Rattle.pascal.specs.inner.Window.{width, back, Added}
 use Rattle.pascal.proofs.Windows.{window-up, back-below}
 use Rattle.pascal.proofs.window.climb.Statement.{statement}
 use Rattle.pascal.proofs.window.climb.Tie as tie

@@ -5,8 +5,8 @@ use Prim.Native.Nat.{ℕ, _≤_, _<_, _-_}
 use native.Mathlib.Omega.{arith}
 use lib.ListN.{length, getD, length-set}
 use borrow.Author.Count.{below-none}
-use Rattle.pascal.specs.Triangle.{lastRow}
-use Rattle.pascal.specs.Window.{width, back}
+use Rattle.pascal.specs.inner.Triangle.{lastRow}
+use Rattle.pascal.specs.inner.Window.{width, back}
 use Rattle.pascal.proofs.Stores.{stored-below}
 use Rattle.pascal.proofs.window.last_row.Statement.{statement}
 use Rattle.pascal.proofs.window.last_row.Tie as tie

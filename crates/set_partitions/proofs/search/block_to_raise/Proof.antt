@@ -8,7 +8,7 @@ use lib.ListN.{length, getD}
 use borrow.Author.Count.{below-more}
 use borrow.Author.Needs.{needs}
 use Rattle.listings.specs.Bytes.{Bytes}
-use Rattle.set_partitions.specs.Moves.{rises}
+use Rattle.set_partitions.specs.inner.Moves.{rises}
 use Rattle.set_partitions.proofs.search.block_to_raise.Statement.{statement}
 use Rattle.set_partitions.proofs.search.block_to_raise.Tie as tie
 

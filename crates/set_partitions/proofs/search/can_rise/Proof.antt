@@ -1,7 +1,7 @@
 -- `set_partitions::search::can_rise` meets its contract: the two tests are those of `rises`.
 -- Assumes nothing.
 use borrow.Author.Tests.{lt-ltb, le-ltb}
-use Rattle.set_partitions.specs.Moves.{rises}
+use Rattle.set_partitions.specs.inner.Moves.{rises}
 use Rattle.set_partitions.proofs.search.can_rise.Statement.{statement}
 use Rattle.set_partitions.proofs.search.can_rise.Tie as tie
 

@@ -1,7 +1,7 @@
 -- `set_partitions::search::can_sink` meets its contract: the two tests are those of `sinks`.
 -- Assumes nothing.
 use borrow.Author.Tests.{lt-ltb, le-ltb}
-use Rattle.set_partitions.specs.Moves.{sinks}
+use Rattle.set_partitions.specs.inner.Moves.{sinks}
 use Rattle.set_partitions.proofs.search.can_sink.Statement.{statement}
 use Rattle.set_partitions.proofs.search.can_sink.Tie as tie
 

@@ -8,10 +8,10 @@ use lib.ListN.{take, drop, length-take}
 use borrow.Author.Needs.{needs}
 use Rattle.families.specs.declared.Family.{Family}
 use Rattle.columns.specs.Fields.{fieldWidth}
-use Rattle.columns.specs.Writing.{valueAs}
+use Rattle.columns.specs.inner.Writing.{valueAs}
 use Rattle.columns.proofs.FieldLaws.{rest-is, field-small}
 use Rattle.slip.specs.Grammar.{consField, familyOf, slipWith, slipFrom}
-use Rattle.slip.specs.Reading.{parsedAs}
+use Rattle.slip.specs.inner.Reading.{parsedAs}
 use Rattle.slip.specs.Sizes.{mostCounts, lineWidth}
 use Rattle.slip.proofs.LineLaws.{at-most-malformed}
 use Rattle.slip.proofs.SlipLaws.{slip-short, slip-open, slip-is}

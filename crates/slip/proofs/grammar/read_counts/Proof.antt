@@ -8,9 +8,9 @@ use lib.Seq.{take-all}
 use lib.ListN.{length, take, drop, length-set}
 use borrow.Author.Needs.{needs}
 use Rattle.columns.specs.Fields.{fieldWidth}
-use Rattle.columns.specs.Writing.{valueAs}
+use Rattle.columns.specs.inner.Writing.{valueAs}
 use Rattle.slip.specs.Grammar.{fields, handedOn}
-use Rattle.slip.specs.Reading.{countsAs}
+use Rattle.slip.specs.inner.Reading.{countsAs}
 use Rattle.slip.proofs.LineLaws.{after, counts-none, counts-bad, counts-more, counts-all}
 use Rattle.slip.proofs.grammar.read_counts.Statement.{statement}
 use Rattle.slip.proofs.grammar.read_counts.Tie as tie

@@ -9,7 +9,7 @@ use lib.ListN.{length, take, drop}
 use lib.Seq.{length-take-le, take-at}
 use borrow.Author.Needs.{needs}
 use Rattle.slip.specs.Grammar.{fields, handedOn, withCounts}
-use Rattle.slip.specs.Reading.{countsAs, parsedAs}
+use Rattle.slip.specs.inner.Reading.{countsAs, parsedAs}
 use Rattle.slip.specs.Sizes.{mostCounts}
 use Rattle.slip.proofs.LineLaws.{line-absent, line-unasked, line-present, line-width, line-end, line-fields, by-line, at-most, at-most-malformed}
 use Rattle.slip.proofs.grammar.second_line.Statement.{statement}

@@ -9,7 +9,7 @@ use lib.ListN.{length, take}
 use lib.Seq.{take-all}
 use Rattle.columns.specs.Columns.{column}
 use Rattle.columns.specs.Fields.{fieldWidth}
-use Rattle.columns.specs.Writing.{Wrote}
+use Rattle.columns.specs.inner.Writing.{Wrote}
 use Rattle.slip.proofs.Lines.{bytes-more}
 use Rattle.columns.proofs.Writes.{wrote-nothing, then}
 use Rattle.slip.proofs.listing.put_bytes.Statement.{statement}

@@ -14,7 +14,7 @@ use Rattle.listings.proofs.PlaceRules.{at-below}
 use Rattle.families.specs.Table.{lent}
 use Rattle.families.specs.Families.{listing}
 use Rattle.families.proofs.Going.{not-moved, moves-on, stops}
-use Rattle.columns.specs.Writing.{Wrote}
+use Rattle.columns.specs.inner.Writing.{Wrote}
 use Rattle.columns.proofs.Writes.{wrote-nothing}
 use Rattle.slip.specs.Sizes.{listedAtMost, objectLineWidth}
 use Rattle.slip.specs.Text.{objectLines}

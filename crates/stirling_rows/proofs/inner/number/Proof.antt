@@ -3,7 +3,7 @@
 use mathlib.Core.Path.{_≡_, refl, sym, ap}
 use Prim.Native.Nat.{ℕ}
 use lib.ListN.{getD}
-use Rattle.stirling_rows.specs.Inner.{numbers}
+use Rattle.stirling_rows.specs.inner.Literals.{numbers}
 use Rattle.numbers.proofs.Past.{past}
 use Rattle.stirling_rows.proofs.inner.number.Statement.{statement}
 use Rattle.stirling_rows.proofs.inner.number.Tie as tie

@@ -1,10 +1,12 @@
 -- What the key of the last model says, of a partition into k + 1 blocks, and where a rank comes among the keys in their order.
 -- Assumes nothing.
 use mathlib.Core.Path.{_≡_}
+use mathlib.Core.Bool.{true}
 use Prim.Native.Nat.{ℕ, zero, suc, _+_, _*_, _<_}
 use lib.ListN.{length, take, drop}
 use Rattle.listings.specs.Bytes.{Bytes}
 use Rattle.listings.specs.Places.{At}
+use Rattle.set_partitions.specs.Objects.{isSetPartition, keys}
 use Rattle.set_partitions.specs.Listing.{setPartitions}
 
 -- the blocks of the others
@@ -42,3 +44,9 @@ pub record Written (rank n k : ℕ) (from to : Bytes) : Type 0 where
   pub there : At (setPartitions n k) (take n to) rank
   pub size : length to ≡ length from
   pub kept : drop n to ≡ drop n from
+
+-- ks are the keys of a partition of n models into k blocks
+pub record KeysOf (n k : ℕ) (ks : Bytes) : Type 0 where
+  pub object : Bytes
+  pub parted : isSetPartition n k object ≡ true
+  pub same : ks ≡ keys 0 object

@@ -6,7 +6,7 @@ use Prim.Native.Nat.{ℕ, zero, suc, _+_, _-_, _<_}
 use lib.ListN.{length, getD}
 use Rattle.numbers.specs.Limits.{places}
 use Rattle.numbers.specs.Numbers.{choose}
-use Rattle.pascal.specs.Triangle.{lastRow}
+use Rattle.pascal.specs.inner.Triangle.{lastRow}
 
 -- as many entries of the last row as an entry of a row within the limit is worked out from
 abbrev pub width : ℕ
