@@ -2,7 +2,7 @@
 -- Assumes nothing.
 use mathlib.Core.Path.{_≡_, sym, ap}
 use mathlib.Core.Option.{some}
-use Prim.Native.Nat.{ℕ, _≤_}
+use Prim.Native.Nat.{ℕ}
 use native.Mathlib.Omega.{arith}
 use lib.ListN.{length}
 use Rattle.listings.specs.Bytes.{Bytes}
@@ -13,22 +13,22 @@ use Rattle.families.specs.Families.{askedOfAll, isObject}
 use Rattle.families.specs.Questions.{refusal}
 use Rattle.families.specs.Calls.{respond, measured, unlessRefused}
 use Rattle.families.specs.Codes.{codeOf, valueOf, Coded}
-use Rattle.families.proofs.Refusals.{refusal-small, asked-small}
+use Rattle.families.proofs.Refusals.{Numbered, refusal-numbered, asked-numbered}
 use Rattle.arrangements.specs.Told.{plain, told, Valued, valued}
 use Rattle.arrangements.proofs.Telling.{others}
 
-itself : {q : ℕ} → q ≤ 15 → plain q ≡ q
-itself {q} h = sym (others q (λ e. omega (arith, h, e)) (λ e. omega (arith, h, e)))
+itself : {q : ℕ} → Numbered q → plain q ≡ q
+itself {q} h = sym (others q (λ e. omega (arith, h .upto, e)) (λ e. omega (arith, h .upto, e)))
 
 module _ (c : Call) (f : Family) (b : Lent) (x : Bytes) {q : ℕ} (missed : refusal c f b (length x) (isObject f b x) ≡ some q) where
   pub told-refused : _≡_ {A = Coded} (told (respond c f b x)) (q, x)
   unfolding respond judged codeOf
-  told-refused = rw missed (ap (λ (r : ℕ). (r, x)) (itself (refusal-small c f b _ _ missed)))
+  told-refused = rw missed (ap (λ (r : ℕ). (r, x)) (itself (refusal-numbered c f b _ _ missed)))
 
   pub valued-refused : (v : ℕ) → _≡_ {A = Valued} (valued (respond c f b x .0) v) (q, v)
   unfolding respond judged codeOf valueOf
-  valued-refused v = rw missed (ap (λ (r : ℕ). (r, v)) (itself (refusal-small c f b _ _ missed)))
+  valued-refused v = rw missed (ap (λ (r : ℕ). (r, v)) (itself (refusal-numbered c f b _ _ missed)))
 
 pub length-refused : (f : Family) (b : Lent) {q : ℕ} → firstNo (askedOfAll f b) ≡ some q → (v : ℕ) → _≡_ {A = Valued} (valued (measured f b) v) (q, v)
 unfolding measured unlessRefused codeOf valueOf
-length-refused f b missed v = rw missed (ap (λ (r : ℕ). (r, v)) (itself (asked-small f b missed)))
+length-refused f b missed v = rw missed (ap (λ (r : ℕ). (r, v)) (itself (asked-numbered f b missed)))

@@ -19,7 +19,7 @@ use Rattle.listings.specs.Places.{At, First}
 use Rattle.listings.specs.Calls.{COUNT, FIRST, NEXT, Answer, REFUSED, COUNTED, MEASURED, WRITTEN, STEPPED, Said, orElse, firstNo, judged, onward, stepped, act}
 use Rattle.listings.proofs.PlaceRules.{at-member, at-below}
 use Rattle.listings.proofs.Standing.{getElem-some}
-use Rattle.listings.proofs.Stepping.{place-here}
+use Rattle.listings.proofs.Stepping.{place-here, stepped-some, stepped-none}
 use Rattle.listings.proofs.Walks.{passes}
 use Rattle.families.specs.declared.Family.{Family}
 use Rattle.families.specs.declared.Stepped.{Stepped}
@@ -47,16 +47,6 @@ unfolding judged
 refused-by none x n e = let a = ap (λ (s : Said). s .0) e in let z : _≡_ {A = ℕ} 0 1 = cc in absurd (omega arith)
 refused-by (some p) x n e = let a = ap (λ (s : Said). s .0) e in cc
 
-stepped-some : (o : Option Bytes) (x : Bytes) {y : Bytes} → _≡_ {A = Said} (STEPPED, y) (stepped x o) → o ≡ some y
-unfolding stepped
-stepped-some none x e = let a = ap (λ (s : Said). s .0) e in let z : _≡_ {A = ℕ} 0 1 = cc in absurd (omega arith)
-stepped-some (some z) x e = ap {B = Option Bytes} some (sym (ap (λ (s : Said). s .1) e))
-
-stepped-none : (o : Option Bytes) (x : Bytes) {a : Answer} {y : Bytes} → (a ≡ STEPPED → ⊥) → _≡_ {A = Said} (a, y) (stepped x o) → o ≡ none
-unfolding stepped
-stepped-none none x h e = refl
-stepped-none (some z) x h e = absurd (h (ap (λ (s : Said). s .0) e))
-
 -- the code's answer to NEXT is another than that it stepped
 pub not-moved : (s : Stepped) → OneOf (1 ∷ 2 ∷ []) (tagOf the-type s) → steppedAs s ≡ STEPPED → ⊥
 not-moved Moved keys e = ⊎-elim (λ z. omega arith) (λ z. omega arith) keys
@@ -71,7 +61,7 @@ none-below [] r e = omega arith
 none-below (a ∷ l) zero e = absurd (Option·none-ne-some a (sym e))
 none-below (a ∷ l) (suc r) e = omega (arith, none-below l r e)
 
-empty : {A : Type 0} (l : List A) → length l ≤ 0 → l ≡ []
+pub empty : {A : Type 0} (l : List A) → length l ≤ 0 → l ≡ []
 empty [] h = refl
 empty (a ∷ l) h = absurd (omega arith)
 
@@ -102,19 +92,20 @@ module _ (f : Family) (b : Lent) where
 
   -- what stands in the listing
 
-  object-here : (r : ℕ) {x : Bytes} → At (listing f b) x r → isObject f b x ≡ true
+  pub object-here : (r : ℕ) {x : Bytes} → At (listing f b) x r → isObject f b x ≡ true
   object-here r {x} h = listed f b .only x (at-member (listing f b) r h)
 
   pub long-here : (r : ℕ) {x : Bytes} → At (listing f b) x r → length x ≡ objectLength f b
   long-here r {x} h = lawful f b .long x (object-here r h)
 
-  opens : allowed f b ≡ true → 0 < countOf f b → firstNo (opening FIRST f b) ≡ none
+  -- the questions about the family pass where it is allowed and has an object
+  pub opens : allowed f b ≡ true → 0 < countOf f b → firstNo (opening FIRST f b) ≡ none
   unfolding opening put asked isIn firstNo orElse
   opens a h = after-pass (askedOfAll f b) (put FIRST 4 (ltb 0 (countOf f b)) ∷ []) (asked-allowed f b a) ∙ rw (lt-ltb 0 (countOf f b) h)
 
   -- NEXT at a place of the listing is the place behind it
 
-  next-is : (r : ℕ) {x : Bytes} → At (listing f b) x r → respond NEXT f b x ≡ stepped x (getElem? (listing f b) (suc r))
+  pub next-is : (r : ℕ) {x : Bytes} → At (listing f b) x r → respond NEXT f b x ≡ stepped x (getElem? (listing f b) (suc r))
   unfolding act onward countOf
   next-is r {x} h =
       let o = object-here r h in

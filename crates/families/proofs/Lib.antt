@@ -7,6 +7,8 @@ pub mod CountAnswers
 pub mod Verdicts
 pub mod Responses
 pub mod Going
-pub mod Demand
 pub mod Refusals
+pub mod Answered
+pub mod Edges
+pub mod Demand
 pub mod Cases

@@ -1,4 +1,4 @@
--- A refusal's number is below the codes of the other answers, so that no code stands for two of them.
+-- A refusal's number is that of a question: from 1 to the last one's, and so below the codes of the other answers.
 -- Assumes nothing.
 use mathlib.Core.Path.{_≡_, refl}
 use mathlib.Core.Bool.{Bool, true, false, _&&_, false≢true}
@@ -14,25 +14,36 @@ use Rattle.listings.proofs.Bools.{and-true, or-cases}
 use Rattle.families.specs.declared.Family.{Family}
 use Rattle.families.specs.Table.{Lent}
 use Rattle.families.specs.Families.{askedOfAll}
-use Rattle.families.specs.Questions.{isIn, put, opening, closingFor, refusal}
+use Rattle.families.specs.Questions.{isIn, put, opening, closingFor, refusal, lastQuestion}
 use Rattle.families.proofs.QuestionLaws.{no-was-put}
 
--- the numbers of all questions are at most 15
-small : List ℕ → Bool
-small [] = true
-small (p ∷ ps) = leb p 15 && small ps
+-- q is the number of a question
+pub record Numbered (q : ℕ) : Type 0 where
+  pub from : 1 ≤ q
+  pub upto : q ≤ lastQuestion
 
-among-small : (q : ℕ) (ps : List ℕ) → small ps ≡ true → isIn q ps ≡ true → q ≤ 15
-unfolding small isIn
-among-small q [] h e = absurd (false≢true e)
-among-small q (p ∷ ps) h e =
-    let both = and-true (leb p 15) (small ps) h in
-    ⊎-elim (λ w. omega (arith, eqb-true q p w, leb-true p 15 (both .0))) (λ w. among-small q ps (both .1) w) (or-cases (eqb q p) (isIn q ps) e)
+-- all of them are
+numbered : List ℕ → Bool
+numbered [] = true
+numbered (p ∷ ps) = leb 1 p && leb p lastQuestion && numbered ps
 
-pub refusal-small : (c : Call) (f : Family) (b : Lent) (size : ℕ) (holds : Bool) {q : ℕ} → refusal c f b size holds ≡ some q → q ≤ 15
-unfolding refusal opening closingFor askedOfAll put small
-refusal-small c f b size holds {q} e = among-small q _ refl (no-was-put q _ e)
+among-numbered : (q : ℕ) (ps : List ℕ) → numbered ps ≡ true → isIn q ps ≡ true → Numbered q
+unfolding numbered isIn
+among-numbered q [] h e = absurd (false≢true e)
+among-numbered q (p ∷ ps) h e =
+    let both = and-true (leb 1 p && leb p lastQuestion) (numbered ps) h in
+    let ends = and-true (leb 1 p) (leb p lastQuestion) (both .0) in
+    let low = leb-true 1 p (ends .0) in
+    let high = leb-true p lastQuestion (ends .1) in
+    ⊎-elim
+    (λ w. let same = eqb-true q p w in record { from = omega arith; upto = omega arith })
+    (λ w. among-numbered q ps (both .1) w)
+    (or-cases (eqb q p) (isIn q ps) e)
 
-pub asked-small : (f : Family) (b : Lent) {q : ℕ} → firstNo (askedOfAll f b) ≡ some q → q ≤ 15
-unfolding askedOfAll small
-asked-small f b {q} e = among-small q _ refl (no-was-put q _ e)
+pub refusal-numbered : (c : Call) (f : Family) (b : Lent) (size : ℕ) (holds : Bool) {q : ℕ} → refusal c f b size holds ≡ some q → Numbered q
+unfolding refusal opening closingFor askedOfAll put numbered
+refusal-numbered c f b size holds {q} e = among-numbered q _ refl (no-was-put q _ e)
+
+pub asked-numbered : (f : Family) (b : Lent) {q : ℕ} → firstNo (askedOfAll f b) ≡ some q → Numbered q
+unfolding askedOfAll numbered
+asked-numbered f b {q} e = among-numbered q _ refl (no-was-put q _ e)

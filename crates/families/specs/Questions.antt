@@ -30,7 +30,7 @@ isIn q (p ∷ ps) = eqb q p || isIn q ps
 unfoldable pub put : Call → ℕ → Bool → Question
 put c q answer = record { number = q; yes? = not (isIn q (asked c)) || answer }
 
--- the rank that UNRANK is handed
+-- the rank that UNRANK is handed; question 8 is put to no other call, so that of the others is never asked
 unfoldable pub rankGiven : Call → ℕ
 rankGiven COUNT = 0
 rankGiven FIRST = 0
@@ -53,6 +53,10 @@ closingFor c count long size holds =
 -- the number of the first no, for a buffer of that size that holds an object or doesn't
 unfoldable pub refusal : Call → Family → Lent → ℕ → Bool → Option ℕ
 refusal c f b size holds = firstNo (opening c f b ++ closingFor c (countOf f b) (objectLength f b) size holds)
+
+-- the largest number of a question that a call is put
+abbrev pub lastQuestion : ℕ
+lastQuestion = 8
 
 -- questions 5 and 8 for a rank and a count, whatever the call
 unfoldable pub rankRefusal : ℕ → ℕ → Option ℕ

@@ -1,18 +1,52 @@
 -- What NEXT and PREVIOUS do, by what follows what: a neighbour is stepped to, and past the last and the first there is END. And where an object stands.
 -- Assumes nothing.
-use mathlib.Core.Path.{_≡_, sym, ap, _∙_}
+use mathlib.Core.Path.{_≡_, refl, sym, ap, _∙_}
 use mathlib.Core.Bool.{Bool, true}
-use mathlib.Core.Option.{Option, some, Option·some-injective}
+use mathlib.Core.Option.{Option, none, some, Option·some-injective, Option·none-ne-some}
 use mathlib.Core.List.{List}
-use Prim.Native.Nat.{ℕ, suc}
+use Prim.Native.Nat.{ℕ, zero, suc}
 use native.Mathlib.Omega.{arith}
 use lib.ListN.{getD}
 use Rattle.listings.specs.Bytes.{Bytes}
 use Rattle.listings.specs.Listings.{Listing}
 use Rattle.listings.specs.Places.{At, Follows, First, Last, countBefore}
-use Rattle.listings.specs.Calls.{NEXT, PREVIOUS, STEPPED, END, Said, placeOf, onward, backward, stepped, act}
+use Rattle.listings.specs.Calls.{NEXT, PREVIOUS, Answer, STEPPED, END, Said, placeOf, onward, backward, stepped, act}
 use Rattle.listings.proofs.PlaceRules.{at-below}
-use Rattle.listings.proofs.Standing.{getElem-some, getElem-none, place-at, stands-at-rank}
+use Rattle.listings.proofs.Standing.{getElem-some, getElem-none, Found, Tells, place-tells, place-at, stands-at-rank}
+
+-- what a step that was answered so found
+
+pub stepped-some : (o : Option Bytes) (x : Bytes) {y : Bytes} → _≡_ {A = Said} (STEPPED, y) (stepped x o) → o ≡ some y
+unfolding stepped
+stepped-some none x e = let a = ap (λ (s : Said). s .0) e in let z : _≡_ {A = ℕ} 0 1 = cc in absurd (omega arith)
+stepped-some (some z) x e = ap {B = Option Bytes} some (sym (ap (λ (s : Said). s .1) e))
+
+pub stepped-none : (o : Option Bytes) (x : Bytes) {a : Answer} {y : Bytes} → (a ≡ STEPPED → ⊥) → _≡_ {A = Said} (a, y) (stepped x o) → o ≡ none
+unfolding stepped
+stepped-none none x h e = refl
+stepped-none (some z) x h e = absurd (h (ap (λ (s : Said). s .0) e))
+
+found-at : {l : List Bytes} {x : Bytes} {p : ℕ} → Found l x p → At l x p
+found-at {l} {x} {p} f = getElem-some l p x (f .inside) ∙ ap {B = Option Bytes} some (f .there x)
+
+-- a NEXT or PREVIOUS that says it stepped has stepped to a neighbour
+
+pub stepped-on : (lt : Bytes → Bytes → Bool) (l : List Bytes) (x : Bytes) {y : Bytes} → _≡_ {A = Said} (STEPPED, y) (act NEXT lt l x) → Follows l x y
+unfolding act onward
+stepped-on lt l x {y} e = go (placeOf l x) (place-tells l x) (stepped-some (onward l (placeOf l x)) x e)
+  where
+    go : (m : Option ℕ) → Tells l x m → onward l m ≡ some y → Follows l x y
+    go none t h = absurd (Option·none-ne-some y h)
+    go (some p) t h = record { place = p; here = found-at t; there = h }
+
+pub stepped-back : (lt : Bytes → Bytes → Bool) (l : List Bytes) (x : Bytes) {y : Bytes} → _≡_ {A = Said} (STEPPED, y) (act PREVIOUS lt l x) → Follows l y x
+unfolding act backward
+stepped-back lt l x {y} e = go (placeOf l x) (place-tells l x) (stepped-some (backward l (placeOf l x)) x e)
+  where
+    go : (m : Option ℕ) → Tells l x m → backward l m ≡ some y → Follows l y x
+    go none t h = absurd (Option·none-ne-some y h)
+    go (some zero) t h = absurd (Option·none-ne-some y h)
+    go (some (suc p)) t h = record { place = p; here = h; there = found-at t }
 
 module _ {object : Bytes → Bool} {lt : Bytes → Bytes → Bool} {l : List Bytes} (lists : Listing object lt l) where
   -- what stands at place p has the place p
@@ -24,9 +58,13 @@ module _ {object : Bytes → Bool} {lt : Bytes → Bytes → Bool} {l : List Byt
 
   -- an object stands at its rank
   pub at-rank : (x : Bytes) → object x ≡ true → At l x (countBefore lt x l)
-  at-rank x o =
-      let f = stands-at-rank lists x o in
-      getElem-some l (countBefore lt x l) x (f .inside) ∙ ap {B = Option Bytes} some (f .there x)
+  at-rank x o = found-at (stands-at-rank lists x o)
+
+  -- neighbours differ
+  pub neighbours-differ : {x y : Bytes} → Follows l x y → x ≡ y → ⊥
+  neighbours-differ {x} {y} s e =
+      let n : s .place ≡ suc (s .place) = Option·some-injective (s .place) (suc (s .place)) (sym (place-here (s .place) (s .here)) ∙ ap (placeOf l) e ∙ place-here (suc (s .place)) (s .there)) in
+      omega arith
 
   pub next-steps : {x y : Bytes} → Follows l x y → _≡_ {A = Said} (STEPPED, y) (act NEXT lt l x)
   unfolding act onward stepped

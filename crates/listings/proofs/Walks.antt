@@ -18,6 +18,7 @@ use Rattle.listings.specs.Calls.{Call, FIRST, LAST, NEXT, PREVIOUS, RANK
 use Rattle.listings.specs.Marker.{Mark, start, stands, shown, stepsTo, oneOn, oneBack, move, marked, Refuse, runFrom, markerRun}
 use Rattle.listings.specs.Runs.{heard, untilEnd, bytesOf, finally, unranks}
 use Rattle.listings.proofs.Standing.{getD-default, Tells, place-tells, found-rank, stands-at-rank}
+use Rattle.listings.proofs.Stepping.{place-here, at-rank}
 use Rattle.listings.proofs.Demand.{Lawful, Asks, answering, shows-start, stands-start, calls-are-the-marker}
 
 reverse-take : (l : List Bytes) (p : ℕ) (d : Bytes) → p < length l → reverse (take (suc p) l) ≡ getD l p d ∷ reverse (take p l)
@@ -55,6 +56,19 @@ module _ (refuse : Refuse) (l : List Bytes) (s : Bytes) where
   on-then free p zero cs h = rw add-zero
   on-then free p (suc m) cs h = rw (free, lt-ltb (suc p) (length l) (omega arith), on-then free (suc p) m cs (omega arith), suc-add, add-suc)
 
+  -- with as many objects behind it END isn't heard
+  on-unheard : refuse NEXT (length s) true ≡ none → (p m : ℕ) → p + m < length l → untilEnd (runFrom refuse l s (some p) (replicate m NEXT)) ≡ none
+  unfolding untilEnd heard runFrom stands move marked oneOn stepsTo shown
+  on-unheard free p zero h = refl
+  on-unheard free p (suc m) h = rw (free, lt-ltb (suc p) (length l) (omega arith), on-unheard free (suc p) m (omega arith))
+
+  -- nor with as many before it, going back
+  back-unheard : refuse PREVIOUS (length s) true ≡ none → (p m : ℕ) → m ≤ p → untilEnd (runFrom refuse l s (some p) (replicate m PREVIOUS)) ≡ none
+  unfolding untilEnd heard runFrom stands move marked oneBack shown
+  back-unheard free p zero h = refl
+  back-unheard free zero (suc m) h = absurd (omega arith)
+  back-unheard free (suc p) (suc m) h = rw (free, back-unheard free p m (omega arith))
+
   -- m steps back
   back-to : refuse PREVIOUS (length s) true ≡ none → (p m : ℕ) → finally (getD l (p + m) s) (runFrom refuse l s (some (p + m)) (replicate m PREVIOUS)) ≡ getD l p s
   unfolding finally runFrom stands move marked oneBack shown
@@ -68,6 +82,12 @@ module _ (refuse : Refuse) (l : List Bytes) (s : Bytes) where
   stuck m e f zero zero = refl
   stuck m e f zero (suc j) = rw f (stuck m e f zero j)
   stuck m e f (suc i) j = rw e (stuck m e f i j)
+
+  -- and END isn't heard
+  stuck-unheard : (m : Mark) {q : ℕ} → refuse NEXT (length s) (stands m) ≡ some q → (i : ℕ) → untilEnd (runFrom refuse l s m (replicate i NEXT)) ≡ none
+  unfolding untilEnd heard runFrom marked
+  stuck-unheard m e zero = refl
+  stuck-unheard m e (suc i) = rw (e, stuck-unheard m e i)
 
 -- a call that isn't answered by a refusal has passed its questions
 pub passes : (o : Option ℕ) (x : Bytes) {a b : Said} → judged o x a ≡ b → ((q : ℕ) → REFUSED q ≡ b .0 → ⊥) → (o ≡ none) × (a ≡ b)
@@ -102,22 +122,58 @@ module _ {refuse : Refuse} {object : Bytes → Bool} {lt : Bytes → Bytes → B
   unfolding markerRun
   every-rank s free = ap bytesOf (calls-are-the-marker lawful asks s (unranks 0 (length l))) ∙ ranks refuse l s free (start l s) 0 (length l) (omega arith)
 
-  -- m times NEXT with END never heard, then m times PREVIOUS, restore the bytes, whatever they are
-  pub back-again : (m : ℕ) (s : Bytes) → untilEnd (responses (answering refuse object lt l) s (replicate m NEXT)) ≡ none
+  -- from bytes that hold no object, or one with m more behind it, m times NEXT and then m times PREVIOUS restore them
+  pub back-again : (m : ℕ) (s : Bytes) → (object s ≡ true → countBefore lt s l + m < length l)
       → finally s (responses (answering refuse object lt l) s (replicate m NEXT ++ replicate m PREVIOUS)) ≡ s
   unfolding markerRun stands shown
-  back-again m s e =
+  back-again m s room =
       ap (finally s) (calls-are-the-marker lawful asks s (replicate m NEXT ++ replicate m PREVIOUS))
-      ∙ rw (shows-start lawful asks s) at (go (start l s) (place-tells l s) (refuse NEXT (length s) (stands (start l s))) refl (sym (ap untilEnd (calls-are-the-marker lawful asks s (replicate m NEXT))) ∙ e))
+      ∙ rw (shows-start lawful asks s) at (go (start l s) (place-tells l s) (sym (stands-start lawful asks s)) (refuse NEXT (length s) (stands (start l s))) refl)
     where
-      go : (a : Mark) → Tells l s a → (o : Option ℕ) → refuse NEXT (length s) (stands a) ≡ o → untilEnd (runFrom refuse l s a (replicate m NEXT)) ≡ none
+      go : (a : Mark) → Tells l s a → object s ≡ stands a → (o : Option ℕ) → refuse NEXT (length s) (stands a) ≡ o
           → finally (shown l s a) (runFrom refuse l s a (replicate m NEXT ++ replicate m PREVIOUS)) ≡ shown l s a
-      go a t (some q) r f = stuck refuse l s a r (sym (asks .alike (length s) (stands a)) ∙ r) m m
-      go none t none r f = absurd (false≢true (asks .reads NEXT (length s) false refl r))
-      go (some p) t none r f = elim (decLt (p + m) (length l)) [
-        | yes h ↦ on-then refuse l s r p m (replicate m PREVIOUS) h ∙ back-to refuse l s (sym (asks .alike (length s) true) ∙ r) p m
-        | no h ↦ absurd (Option·some-ne-none (drop (suc p) l) (sym (on refuse l s r p m (t .inside) (omega arith)) ∙ f))
+      go a t e (some q) r = stuck refuse l s a r (sym (asks .alike (length s) (stands a)) ∙ r) m m
+      go none t e none r = absurd (false≢true (asks .reads NEXT (length s) false refl r))
+      go (some p) t e none r =
+          let h : p + m < length l = omega (arith, room e, found-rank (lawful .lists) t) in
+          on-then refuse l s r p m (replicate m PREVIOUS) h ∙ back-to refuse l s (sym (asks .alike (length s) true) ∙ r) p m
+
+  -- the marker starts at an object's rank
+  starts-at : (s : Bytes) → object s ≡ true → start l s ≡ some (countBefore lt s l)
+  starts-at s o = place-here (lawful .lists) (countBefore lt s l) (at-rank (lawful .lists) s o)
+
+  -- when END is heard: m times NEXT from an object hear none just where m more stand behind it
+  pub next-unheard : (s : Bytes) → object s ≡ true → refuse NEXT (length s) true ≡ none → (m : ℕ) → countBefore lt s l + m < length l
+      → untilEnd (responses (answering refuse object lt l) s (replicate m NEXT)) ≡ none
+  unfolding markerRun
+  next-unheard s o free m h =
+      ap untilEnd (calls-are-the-marker lawful asks s (replicate m NEXT)) ∙ rw (starts-at s o) (on-unheard refuse l s free (countBefore lt s l) m h)
+
+  pub unheard-room : (s : Bytes) → object s ≡ true → refuse NEXT (length s) true ≡ none → (m : ℕ) → untilEnd (responses (answering refuse object lt l) s (replicate m NEXT)) ≡ none
+      → countBefore lt s l + m < length l
+  unfolding markerRun
+  unheard-room s o free m e =
+      let p = countBefore lt s l in
+      let run : untilEnd (runFrom refuse l s (some p) (replicate m NEXT)) ≡ none = rw (starts-at s o) at (sym (ap untilEnd (calls-are-the-marker lawful asks s (replicate m NEXT))) ∙ e) in
+      elim (decLt (p + m) (length l)) [
+        | yes h ↦ h
+        | no h ↦ absurd (Option·some-ne-none (drop (suc p) l) (sym (on refuse l s free p m (stands-at-rank (lawful .lists) s o .inside) (omega arith)) ∙ run))
       ]
+
+  -- m times PREVIOUS hear none where m stand before it
+  pub previous-unheard : (s : Bytes) → object s ≡ true → refuse PREVIOUS (length s) true ≡ none → (m : ℕ) → m ≤ countBefore lt s l
+      → untilEnd (responses (answering refuse object lt l) s (replicate m PREVIOUS)) ≡ none
+  unfolding markerRun
+  previous-unheard s o free m h =
+      ap untilEnd (calls-are-the-marker lawful asks s (replicate m PREVIOUS)) ∙ rw (starts-at s o) (back-unheard refuse l s free (countBefore lt s l) m h)
+
+  -- and where NEXT is refused it goes on being refused
+  pub refused-unheard : (s : Bytes) {q : ℕ} → refuse NEXT (length s) (object s) ≡ some q → (m : ℕ)
+      → untilEnd (responses (answering refuse object lt l) s (replicate m NEXT)) ≡ none
+  unfolding markerRun
+  refused-unheard s e m =
+      ap untilEnd (calls-are-the-marker lawful asks s (replicate m NEXT))
+      ∙ stuck-unheard refuse l s (start l s) (ap (λ (t : Bool). refuse NEXT (length s) t) (stands-start lawful asks s) ∙ e) m
 
   -- UNRANK of what RANK answers writes the object again, into any bytes that it accepts
   pub rank-back : (x y : Bytes) (r : ℕ) → answering refuse object lt l RANK x ≡ (RANKED r, x) → refuse (UNRANK r) (length y) (object y) ≡ none

@@ -13,7 +13,8 @@ pub data Call : Type 0 where
   COUNT FIRST LAST NEXT PREVIOUS RANK : Call
   UNRANK : ℕ → Call
 
--- what a call says: a refusal "hands back its number only"; FIRST, LAST and UNRANK say "that it is written"; MEASURED is how long the objects are
+-- what a call says: a refusal "hands back its number only"; FIRST, LAST and UNRANK say "that it is written". MEASURED says how long the objects are, and
+-- answers none of the seven calls
 pub data Answer : Type 0 where
   REFUSED COUNTED RANKED MEASURED : ℕ → Answer
   WRITTEN STEPPED END : Answer
@@ -47,12 +48,12 @@ unfoldable pub placeOf : List Bytes → Bytes → Option ℕ
 placeOf [] x = none
 placeOf (y ∷ l) x = cond (same y x) (some 0) (Option·map suc (placeOf l x))
 
--- the object "just after" a place, if there is one
+-- the object "just after" a place, if there is one. Bytes that have no place are refused by question 7, so the first case is never reached
 unfoldable pub onward : List Bytes → Option ℕ → Option Bytes
 onward l none = none
 onward l (some p) = getElem? l (suc p)
 
--- and "before it"
+-- and "before it"; the first case as above, the second at the first object
 unfoldable pub backward : List Bytes → Option ℕ → Option Bytes
 backward l none = none
 backward l (some zero) = none

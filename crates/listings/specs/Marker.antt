@@ -32,7 +32,7 @@ unfoldable pub stepsTo : Bool → ℕ → Mark → Answer × Mark
 stepsTo true p m = (STEPPED, some p)
 stepsTo false p m = (END, m)
 
--- "NEXT moves it one on"
+-- "NEXT moves it one on". Nowhere, it is refused by question 7 before: the first case of this, of `oneBack` and of `rankAt` is never reached
 unfoldable pub oneOn : List Bytes → Mark → Answer × Mark
 oneOn l none = (END, none)
 oneOn l (some p) = stepsTo (ltb (suc p) (length l)) (suc p) (some p)
