@@ -1,8 +1,12 @@
 /* Arrangement numbers: the seven calls on families of combinatorial objects, and the length of an object.
  *
  * Build the library with `rt staticlib arrangements` and link target/staticlib/libarrangements.a.
- * Every call answers any arguments; no call has a precondition beyond valid pointers, not null, and that what it writes to overlaps nothing else
- * that it is lent. docs/PROMISES.md says what is proved.
+ * docs/SCOPE.md says what families, orders, calls and questions are, docs/PROMISES.md what is proved.
+ *
+ * Every call answers any family, lists and bytes. It asks only this of its pointers, and what it does is undefined only where this fails:
+ *   - each is valid and not null, also where its length is 0, as for an empty list or an empty object, through which nothing is read or written;
+ *   - object, *value, the lists and the bytes of the lists don't overlap one another.
+ * Nothing is kept between calls. Any number of threads may call at once, each with its own object and *value; lists may be shared: no call writes them.
  *
  * A family is (kind, n, k) and, for kind 2, a list of letter counts, one byte a letter; for other kinds the list is empty.
  *   kind 1  subsets of k out of 1 to n, ascending          k bytes       n, k up to 80
@@ -12,15 +16,7 @@
  *   kind 5  integer partitions of n into k parts            k bytes       n, k up to 80
  *   kind 6  Dyck words with n of each, 1 up and 0 down      2n bytes      n up to 40, k = 0
  *
- * Codes:
- *   0    answered, written or stepped
- *   100  END: none follows (NEXT) or precedes (PREVIOUS); nothing changed
- *   1..8 refused, nothing changed: the first question missed
- *        1 the kind is 1 to 6            5 the count is below 2^64 (COUNT, RANK, UNRANK)
- *        2 n and k are within the table  6 the buffer has the object's length (all but COUNT)
- *        3 the count list fits           7 it holds an object (RANK, NEXT, PREVIOUS)
- *        4 the family has an object      8 the rank is below the count (UNRANK)
- *          (all but COUNT, which answers 0)
+ * A call answers one of the codes below. Only ARRANGEMENT_DONE comes with a change of what is lent.
  */
 #ifndef ARRANGEMENTS_H
 #define ARRANGEMENTS_H
@@ -32,8 +28,18 @@
 extern "C" {
 #endif
 
-#define ARRANGEMENT_DONE 0u
-#define ARRANGEMENT_END 100u
+#define ARRANGEMENT_DONE 0u  /* answered, written or stepped */
+#define ARRANGEMENT_END 100u /* none follows (NEXT) or precedes (PREVIOUS) */
+
+/* Refusals, by the number of the first question that is answered by no; in brackets the calls to which it is put, if not to all. */
+#define ARRANGEMENT_REFUSED_KIND 1u          /* is the kind 1 to 6? */
+#define ARRANGEMENT_REFUSED_BOUNDS 2u        /* are n and k within the table above? */
+#define ARRANGEMENT_REFUSED_LETTER_COUNTS 3u /* for kind 2, is the count list n long with a sum of at most 80; is it empty for other kinds? */
+#define ARRANGEMENT_REFUSED_NO_OBJECTS 4u    /* has the family an object? (all but COUNT, which answers 0) */
+#define ARRANGEMENT_REFUSED_OVERFLOW 5u      /* is the count below 2^64? (COUNT, RANK, UNRANK) */
+#define ARRANGEMENT_REFUSED_LENGTH 6u        /* has the buffer the object's length? (all but COUNT) */
+#define ARRANGEMENT_REFUSED_NOT_AN_OBJECT 7u /* does it hold an object of the family? (RANK, NEXT, PREVIOUS) */
+#define ARRANGEMENT_REFUSED_RANK 8u          /* is the rank below the count? (UNRANK) */
 
 /* A family is passed by value. Make one by arrangement_family_of: later fields then have their defaults. */
 typedef struct {
@@ -46,7 +52,7 @@ static inline arrangement_family arrangement_family_of(uint64_t kind, uint64_t n
     return f;
 }
 
-/* Bytes that are read only. A list that isn't used is any valid pointer with length 0. */
+/* Bytes that are read only. A list that isn't used is empty: length 0, and any valid pointer, not null. */
 typedef struct {
     const uint8_t *bytes;
     size_t length;

@@ -42,8 +42,8 @@ int main(void)
         return 1;
     show("and back", tree, 7);
 
-    /* A number that no arrangement has is refused by question 8, and the tree stays. */
+    /* A number that no arrangement has is refused by its question, 8, and the tree stays. */
     uint32_t code = arrangement_unrank(all, trees, &lists, tree, 7);
     printf("number %" PRIu64 " is refused by question %" PRIu32 "\n", all, code);
-    return code == 8 ? 0 : 1;
+    return code == ARRANGEMENT_REFUSED_RANK ? 0 : 1;
 }

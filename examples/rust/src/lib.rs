@@ -48,8 +48,23 @@ pub struct Arrangements {
     pub counts: Vec<u8>,
 }
 
-/// 0 answered, 100 END, 1 to 8 the first question missed.
+/// What a call answers: one of the codes below, as in include/arrangements.h.
 pub type Code = u32;
+
+/// Answered, written or stepped.
+pub const DONE: Code = 0;
+/// None follows or precedes.
+pub const END: Code = 100;
+
+// Refusals, by the number of the first question that is answered by no.
+pub const REFUSED_KIND: Code = 1;
+pub const REFUSED_BOUNDS: Code = 2;
+pub const REFUSED_LETTER_COUNTS: Code = 3;
+pub const REFUSED_NO_OBJECTS: Code = 4;
+pub const REFUSED_OVERFLOW: Code = 5;
+pub const REFUSED_LENGTH: Code = 6;
+pub const REFUSED_NOT_AN_OBJECT: Code = 7;
+pub const REFUSED_RANK: Code = 8;
 
 impl Arrangements {
     fn parts(&self) -> (Family, CLists) {

@@ -1,29 +1,33 @@
 //! A number for an arrangement, the arrangement for a number, one step on and back. Build and run: examples/rust/run
 
-use arrangements_example::{Arrangements, Family};
+use arrangements_example::{Arrangements, Family, DONE, END, REFUSED_RANK};
 
 fn main() {
     // Fourteen bytes of a plan with seven branches.
     let plans = Arrangements { family: Family::of(6, 7, 0), counts: vec![] };
     let mut plan = [1, 1, 0, 1, 1, 0, 0, 0, 1, 1, 1, 0, 0, 0];
     let (mut all, mut number) = (0, 0);
-    assert_eq!(plans.count(&mut all), 0);
-    assert_eq!(plans.rank(&plan, &mut number), 0);
+    assert_eq!(plans.count(&mut all), DONE);
+    assert_eq!(plans.rank(&plan, &mut number), DONE);
     println!("the plan                  {plan:?}");
     println!("its number, of {all}:       {number}");
 
     let mut again = [0u8; 14];
-    assert_eq!(plans.unrank(number, &mut again), 0);
+    assert_eq!(plans.unrank(number, &mut again), DONE);
     println!("the plan for that number  {again:?}");
-    assert_eq!(plans.next(&mut plan), 0);
+    assert_eq!(plans.next(&mut plan), DONE);
     println!("one step on               {plan:?}");
-    assert_eq!(plans.previous(&mut plan), 0);
+    assert_eq!(plans.previous(&mut plan), DONE);
     println!("and back                  {plan:?}");
     assert_eq!(plan, again);
 
-    assert_eq!(plans.last(&mut plan), 0);
+    assert_eq!(plans.last(&mut plan), DONE);
     let last = plan;
-    assert_eq!(plans.next(&mut plan), 100);
+    assert_eq!(plans.next(&mut plan), END);
     assert_eq!(plan, last);
     println!("behind the last: END, and the plan stays");
+
+    assert_eq!(plans.unrank(all, &mut plan), REFUSED_RANK);
+    assert_eq!(plan, last);
+    println!("number {all} is refused, and the plan stays");
 }
