@@ -1,5 +1,6 @@
--- Kind 4: the list of the set partitions is their listing, how many there are, and what the functions do by it.
+-- Kind 4: what the definitions mean, that the list of the set partitions is their listing, how many there are, and what the functions do by it.
 pub mod Facts
+pub mod Meaning
 pub mod KeyOrder
 pub mod Theorem
 pub mod Laws

@@ -1,4 +1,5 @@
 -- Kind 4: what a set partition is, which of two comes first, and the listing of them all.
 pub mod Objects
+pub mod Meaning
 pub mod Listing
 pub mod inner

@@ -1,4 +1,5 @@
 -- Kind 4, set partitions ("flask sharing"): the test of being one of n models into k blocks, the keys, and the order.
+-- Meaning says the test and the keys by membership and places; the theorems named below, of proofs/Meaning.antt, show that it is the same.
 -- Assumes nothing.
 use mathlib.Core.Bool.{Bool, true, false, _&&_}
 use mathlib.Core.List.{[], _∷_}
@@ -8,21 +9,22 @@ use lib.ListN.{length}
 use Rattle.listings.specs.Bytes.{Bytes}
 use Rattle.listings.specs.Orders.{colexBefore}
 
--- with the blocks 1 to m used so far, the next model is in one of them or is the smallest of block m + 1; at the end all k are used
+-- with the blocks 1 to m used so far, the next model is in one of them or is the smallest of block m + 1; at the end all k are used (`means`, `meant`)
 unfoldable pub opens : ℕ → ℕ → Bytes → Bool
 opens m k [] = eqb m k
 opens m k (b ∷ x) = leb 1 b && leb b (suc m) && opens (max m b) k x
 
--- "byte i is the block of model i; blocks are 1 to k, all used, numbered by their smallest model"
+-- "byte i is the block of model i; blocks are 1 to k, all used, numbered by their smallest model": `SetPartition` of Meaning, by `means` and `meant`
 unfoldable pub isSetPartition : ℕ → ℕ → Bytes → Bool
 isSetPartition n k x = eqb (length x) n && opens 0 k x
 
--- a block above all used so far is a new one
+-- a block above all used so far is a new one, and the model its smallest (`key-of-smallest`, `key-of-other`)
 unfoldable pub keyOf : Bool → ℕ → ℕ
 keyOf true b = 0
 keyOf false b = b
 
--- "model i has key 0 if it is the smallest of its block, else its block number"
+-- "model i has key 0 if it is the smallest of its block, else its block number" (`key-of-smallest`, `key-of-other`;
+-- each model is one of the two, `smallest-or-later`), with the blocks 1 to m used so far
 unfoldable pub keys : ℕ → Bytes → Bytes
 keys m [] = []
 keys m (b ∷ x) = keyOf (ltb m b) b ∷ keys (max m b) x
