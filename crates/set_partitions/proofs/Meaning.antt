@@ -184,6 +184,6 @@ key-unused m k (a ∷ x) o (suc i) b above s =
 pub key-of-smallest : (n k : ℕ) (x : Bytes) → isSetPartition n k x ≡ true → (i b : ℕ) → Smallest x i b → At (keys 0 x) 0 i
 key-of-smallest n k x e i b s = key-unused 0 k x (partition-cases n k x e .1) i b (means n k x e .blocks b (at-member x i (s .here)) .0) s
 
--- and that of any bytes
+-- this one holds of any bytes
 pub key-of-other : (x : Bytes) (i b : ℕ) → Later x i b → At (keys 0 x) b i
 key-of-other x i b s = key-later 0 x (s .earlier) i b (s .before) (s .there) (s .here)
