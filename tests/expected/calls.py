@@ -6,6 +6,7 @@ crates/test_calls/src/main.rt has the form of a case and the letters. The librar
 from itertools import product
 
 from families import BRANCHES, FITS, PLACES, Filtered, Ranks, family, length, name, refusal
+from texts import words, write
 
 CALLS = {"c": "COUNT", "r": "RANK", "f": "FIRST", "l": "LAST", "n": "NEXT", "p": "PREVIOUS", "u": "UNRANK"}
 # how a walk begins and goes on, and how many objects it meets at most
@@ -19,10 +20,6 @@ WALKS = {
     "z": ("LAST", "PREVIOUS", None),
 }
 OBJECT = "written", "stepped"
-
-
-def words(numbers):
-    return "".join(f" {b}" for b in numbers)
 
 
 def digest(objects):
@@ -199,11 +196,6 @@ def published():
     return cases, lines
 
 
-def write(path, lines):
-    with open(f"crates/test_calls/{path}", "w") as out:
-        out.write("".join(line + "\n" for line in lines))
-
-
 def main():
     made = {"small_families": small_families(), "refusals": refusals(), "large_families": large_families(), "listings": listings()}
     expected = []
@@ -213,9 +205,9 @@ def main():
         else:
             cases = [case(*c[:5]) for c in made[file]]
             lines = [line for label, letters, rank, f, x, way in made[file] for line in printed(label, letters, rank, Buffer(f, way(f), x))]
-        write(f"data/{file}", cases)
+        write(f"crates/test_calls/data/{file}", cases)
         expected += lines
-    write("stdout", expected)
+    write("crates/test_calls/stdout", expected)
 
 
 main()

@@ -241,8 +241,8 @@ def within(f):
     return 0 <= n <= (BRANCHES if kind == 6 else PLACES) and (k == 0 if kind in (2, 3, 6) else 0 <= k <= PLACES)
 
 
-def refusal(call, f, x, rank=0):
-    """The number of the first question to which the answer is no, or 0. `x`: the lent bytes."""
+def refusal(call, f, x, rank=0, holds=None):
+    """The number of the first question to which the answer is no, or 0. `x`: the lent bytes; `holds`: the answer to 7, where x doesn't tell it."""
     kind, n, k, counts = f
     if not 1 <= kind <= 6:
         return 1
@@ -256,7 +256,7 @@ def refusal(call, f, x, rank=0):
         return 5
     if call != "COUNT" and len(x) != length(f):
         return 6
-    if call in ("RANK", "NEXT", "PREVIOUS") and not is_object(f, x):
+    if call in ("RANK", "NEXT", "PREVIOUS") and not (is_object(f, x) if holds is None else holds):
         return 7
     if call == "UNRANK" and rank >= count(f):
         return 8

@@ -170,3 +170,28 @@ pub fn list(line: &[u8], start: usize, out: &mut [u8]) -> usize
     }
     len
 }
+
+// Reads the numbers from here to the section's end, as far as there is room, and answers how many.
+pub fn wide_list(line: &[u8], start: usize, out: &mut [u64]) -> usize
+    ensures { λ r. ⌜ Counts r (now (out .exit)) ⌝ }
+{
+    let mut len = 0;
+    let mut at = start;
+    while len < out.len() && !at_end(line, at) {
+        let d = decimal(line, at);
+        out[len] = d.value;
+        at = d.end;
+        len += 1;
+    }
+    len
+}
+
+// A length that a case says, as far as there is room.
+pub fn within(length: u64, room: &[u8]) -> usize
+    ensures { λ r. ⌜ Counts r (now (room .entry)) ⌝ }
+{
+    if room.len() as u64 <= length {
+        return room.len();
+    }
+    length as usize
+}
