@@ -6,6 +6,7 @@ from math import comb, factorial
 
 import families
 from families import FITS, PLACES
+from texts import write
 
 BINARY = {"binomial": comb, "stirling": families.stirling, "partitions": families.partitions}
 UNARY = {"factorial": factorial, "catalan": families.catalan}
@@ -36,8 +37,7 @@ def main():
         for k in range(n + 2):
             lines += [f"{what} {n} {k}: {answer(what, (n, k))}" for what in BINARY]
         lines += [f"{what} {n}: {answer(what, (n,))}" for what in UNARY]
-    with open("crates/test_counts/stdout", "w") as out:
-        out.write("".join(line + "\n" for line in lines))
+    write("crates/test_counts/stdout", lines)
 
 
 main()

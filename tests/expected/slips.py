@@ -1,11 +1,13 @@
 #!/usr/bin/env python3
 """Writes what the program `test_slips` is to print: crates/test_slips/stdout, for the slips in crates/test_slips/data/ that
-crates/test_slips/args names. Written from "The slip" of paper 01, with Python's formatting.
+crates/test_slips/args names; and what `treelist` is to print for its crates/treelist/stdin: crates/treelist/stdout, the example that paper
+01 prints in full. Written from "The slip" of paper 01, with Python's formatting.
 
     python3 tests/expected/slips.py"""
 import re
 
 from families import FITS, Filtered, Ranks, count, family, length, refusal
+from texts import write
 
 LISTED = 1000
 NUMBER = rb" *(0|[1-9][0-9]*)"
@@ -50,13 +52,20 @@ def digest(data):
     return total
 
 
+def read(path):
+    with open(path, "rb") as slip:
+        return slip.read()
+
+
 def main():
-    with open("crates/test_slips/stdout", "w") as out:
-        for name in open("crates/test_slips/args").read().split():
-            made = text(open(f"crates/test_slips/data/{name}", "rb").read())
-            out.write(f"{name}: bytes {len(made)}, digest {digest(made.encode())}\n")
-            if len(made) < 600:
-                out.write("".join(f"{name}: {line}\n" for line in made.splitlines()))
+    lines = []
+    for name in open("crates/test_slips/args").read().split():
+        made = text(read(f"crates/test_slips/data/{name}"))
+        lines.append(f"{name}: bytes {len(made)}, digest {digest(made.encode())}")
+        if len(made) < 600:
+            lines += [f"{name}: {line}" for line in made.splitlines()]
+    write("crates/test_slips/stdout", lines)
+    write("crates/treelist/stdout", text(read("crates/treelist/stdin")).splitlines())
 
 
 main()
