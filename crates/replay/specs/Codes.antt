@@ -7,11 +7,12 @@ use lib.Dec.{leb}
 use lib.ListN.{getD}
 use Rattle.listings.specs.Calls.{Call, FIRST, LAST, NEXT, PREVIOUS, UNRANK}
 
--- 1 FIRST, 2 LAST, 3 NEXT, 4 PREVIOUS, 5 UNRANK with the rank beside it
+-- 1 FIRST, 2 LAST, 3 NEXT, 4 PREVIOUS, 5 UNRANK with the rank beside it. It is total: any other number reads as FIRST, but no replay reads
+-- one, since `outcome` looks at the calls only where every code is `known`.
 unfoldable pub callOf : ℕ → ℕ → Call
 callOf code r = getD (FIRST ∷ FIRST ∷ LAST ∷ NEXT ∷ PREVIOUS ∷ UNRANK r ∷ []) code FIRST
 
--- "any list of FIRST, LAST, NEXT, PREVIOUS and UNRANK calls"
+-- "the calls with their arguments": a code, and the rank beside it. Where `outcome` looks at them the two lists are equally long.
 unfoldable pub callsOf : List ℕ → List ℕ → List Call
 callsOf [] rs = []
 callsOf (c ∷ cs) [] = []

@@ -50,7 +50,7 @@ fn is_product(whole: usize, many: usize, size: usize) -> bool
     whole / size == many
 }
 
-// One call, and its answer's code. FIRST is every code that is not named, as in `callOf`.
+// One call, and its answer's code. What is not named is FIRST, as in `callOf`; past `known` that is 1 alone.
 fn one_call<'a>(call: u8, rank: u64, f: Family, lists: Lists<'a>, object: &mut [u8]) -> u8
     ensures { λ r. ⌜ _≡_ {A = Coded} (r, now (object .exit)) (coded (respond (callOf call rank) f (lent (map now (lists .entry))) (now (object .entry)))) ⌝ }
 {
