@@ -5,7 +5,7 @@ use mathlib.Core.List.{_∷_, _++_}
 use Prim.Native.Nat.{suc, _+_, _<_}
 use native.Mathlib.Numerals.{add-one}
 use native.Mathlib.Omega.{arith}
-use lib.ListN.{length, getD, drop}
+use lib.ListN.{length, getD, drop, length-append, length-take, length-drop, length-set}
 use borrow.Author.Needs.{needs}
 use Rattle.numbers.specs.Sums.{range}
 use Rattle.listings.specs.Calls.{STEPPED, Said}
@@ -41,18 +41,20 @@ slice-relend-prefix-fill-up : tie.Need-slice-relend-prefix-fill-up
 slice-relend-prefix-fill-up c = search needs
 
 slice-aggregate-fill-up : tie.Need-slice-aggregate-fill-up
-slice-aggregate-fill-up c = let h : c .before .before .before .number-to-raise .result < length (c .before .before .before .before .before .before .args .object .now) = omega arith in rw front-long
+slice-aggregate-fill-up c =
+    let x = c .before .before .before .before .before .before .args .object .now in
+    let i = c .before .before .before .number-to-raise .result in
+    omega (arith, front-long x i (getD x i 0 + 1) (omega arith))
 
 fill-up-requires : tie.Need-fill-up-requires
 fill-up-requires c κs =
     let n = c .before .before .before .before .before .before .args .n in
     let x = c .before .before .before .before .before .before .args .object .now in
     let i = c .before .before .before .number-to-raise .result in
-    let h : i < length x = omega arith in
-    rw front-long (omega (arith, few n x (c .before .before .before .before .before .before .pre .1)))
+    omega (arith, few n x (c .before .before .before .before .before .before .pre .1), front-long x i (getD x i 0 + 1) (omega arith))
 
 same-length-2 : tie.Need-same-length-2
-same-length-2 c = same-long (c .before .before .before .before .before .before .before .before .before .args .object .now) (c .before .before .before .before .before .before .number-to-raise .result) _ (omega arith) (c .before .before .fill-up .last .0) (c .before .before .fill-up .kept .0)
+same-length-2 c = simp (length-append, length-drop, length-set) (omega (arith, simp (length-take, length-set) at (c .before .before .fill-up .kept .0)))
 
 returns-2 : tie.Need-returns-2
 returns-2 c =
