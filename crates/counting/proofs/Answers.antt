@@ -9,7 +9,7 @@ use lib.Dec.{leb, ltb}
 use borrow.Author.Tests.{lt-ltb, le-ltb, ltb-true, ltb-false, le-leb, lt-leb}
 use Rattle.counting.specs.declared.Count.{Count}
 use Rattle.counting.specs.declared.Count.the-variants.{Exactly, TooLarge, Outside}
-use Rattle.counting.specs.Answers.{fits, within}
+use Rattle.counting.specs.Answers.{fits, within, ifFits}
 
 pub fits-small : (v : ℕ) → v < 2 ^ 64 → fits v ≡ Exactly v
 unfolding fits
@@ -18,6 +18,16 @@ fits-small v h = rw (lt-ltb v (2 ^ 64) h)
 pub fits-large : (v : ℕ) → 2 ^ 64 ≤ v → fits v ≡ TooLarge
 unfolding fits
 fits-large v h = rw (le-ltb v (2 ^ 64) h)
+
+-- the plain number
+
+pub if-small : {v : ℕ} → v < 2 ^ 64 → ifFits v ≡ v
+unfolding ifFits
+if-small {v} h = rw (lt-ltb v (2 ^ 64) h)
+
+pub if-large : {v : ℕ} → 2 ^ 64 ≤ v → ifFits v ≡ 0
+unfolding ifFits
+if-large {v} h = rw (le-ltb v (2 ^ 64) h)
 
 picked : (t : Bool) (v x : ℕ) → cond t (Exactly v) TooLarge ≡ Exactly x → (t ≡ true) × (v ≡ x)
 picked true v x e = (refl, cc)

@@ -10,6 +10,10 @@ use Rattle.counting.specs.declared.Count.the-variants.{Exactly, TooLarge
 unfoldable pub fits : ℕ → Count
 fits v = cond (ltb v (2 ^ 64)) (Exactly v) TooLarge
 
+-- the same as a plain number: the count itself where it is below 2^64, else 0
+unfoldable pub ifFits : ℕ → ℕ
+ifFits v = cond (ltb v (2 ^ 64)) v 0
+
 -- the answer for arguments within the limits, and the case of its own for all others
 unfoldable pub within : Bool → Count → Count
 within inside c = cond inside c Outside

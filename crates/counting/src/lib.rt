@@ -1,13 +1,12 @@
 // The answers about the counts of paper 01's families: each count exact, or "too large". They answer any arguments: those outside the limits of the
-// paper's table by a case of their own. Only `catalan_that_fits`, for ranks, has a `requires`, which its callers show.
+// paper's table by a case of their own. `catalan_that_fits`, for ranks, answers a plain number, and 0 where it doesn't fit.
 ghost use mathlib.Core.Path.{_≡_};
 ghost use mathlib.Core.Bool.{_&&_};
-ghost use Prim.Native.Nat.{_<_, _^_};
 ghost use lib.Dec.{leb};
 ghost use Rattle.numbers.specs.Limits.{places, branches};
 ghost use Rattle.numbers.specs.Sums.{total};
 ghost use Rattle.numbers.specs.Numbers.{choose, factorialOf, multinomialOf, stirlingOf, partitionsOf, catalanOf};
-ghost use Rattle.counting.specs.Answers.{fits, within};
+ghost use Rattle.counting.specs.Answers.{fits, within, ifFits};
 
 mod product;
 mod short;
@@ -118,10 +117,12 @@ pub fn catalan(n: u64) -> Count
     Count::Exactly(short::catalan(n))
 }
 
-// The same number where it fits.
+// The same number where it fits, else 0.
 pub fn catalan_that_fits(n: u64) -> u64
-    requires { ⌜ catalanOf n < 2 ^ 64 ⌝ }
-    ensures { λ r. ⌜ r ≡ catalanOf n ⌝ }
+    ensures { λ r. ⌜ r ≡ ifFits (catalanOf n) ⌝ }
 {
+    if 36 < n {
+        return 0;
+    }
     short::catalan(n)
 }

@@ -1,22 +1,20 @@
--- `counting::catalan_that_fits` meets its contract: from 37 on no Catalan number fits.
+-- `counting::catalan_that_fits` meets its contract: up to 36 it is below 2^64, and from 37 on no Catalan number is.
 -- Assumes nothing.
-use Prim.Native.Nat.{ℕ, _≤_, _<_, _^_}
-use native.Mathlib.Decide.{decLe}
-use native.Mathlib.Omega.{arith}
+use mathlib.Core.Path.{sym, _∙_}
 use borrow.Author.Needs.{needs}
-use Rattle.numbers.specs.Numbers.{catalanOf}
-use Rattle.numbers.proofs.Catalans.{catalan-large}
+use Rattle.numbers.proofs.Catalans.{catalan-small, catalan-large}
+use Rattle.counting.proofs.Answers.{if-small, if-large}
 use Rattle.counting.proofs.catalan_that_fits.Statement.{statement}
 use Rattle.counting.proofs.catalan_that_fits.Tie as tie
 
-few : (n : ℕ) → catalanOf n < 2 ^ 64 → n ≤ 36
-few n h = elim (decLe n 36) [ yes le ↦ le | no more ↦ absurd (omega (arith, catalan-large {n = n} (omega arith))) ]
+returns : tie.Need-returns
+returns c = sym (if-large (catalan-large (c .if1 .taken)))
 
 catalan-requires : tie.Need-catalan-requires
-catalan-requires c κs = few (c .args .n) (c .pre)
+catalan-requires c κs = search needs
 
-returns : tie.Need-returns
-returns c = search needs
+returns-2 : tie.Need-returns-2
+returns-2 c = c .catalan .ensures ∙ sym (if-small (catalan-small (c .before .if1 .left)))
 
 pub catalan-that-fits-spec : {M : Type 1} → statement M
-catalan-that-fits-spec = tie.close (tie.spec catalan-requires returns)
+catalan-that-fits-spec = tie.close (tie.spec returns catalan-requires returns-2)
