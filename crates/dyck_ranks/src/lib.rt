@@ -4,7 +4,6 @@ ghost use mathlib.Core.Path.{_≡_};
 ghost use mathlib.Core.Bool.{true};
 ghost use Prim.Native.Nat.{_*_, _≤_, _<_, _^_};
 ghost use lib.ListN.{length};
-ghost use Rattle.numbers.specs.Limits.{branches};
 ghost use Rattle.numbers.specs.Numbers.{catalanOf};
 ghost use Rattle.listings.specs.Places.{At, countBefore};
 ghost use Rattle.dyck_words.specs.Objects.{isDyckWord};
@@ -17,7 +16,7 @@ use dyck_words::row_lengths;
 
 // How many words come before it.
 pub fn rank(n: u64, object: &[u8]) -> u64
-    requires { ⌜ (n ≤ branches) × (isDyckWord n (now object) ≡ true) ⌝ }
+    requires { ⌜ isDyckWord n (now object) ≡ true ⌝ }
     requires { ⌜ catalanOf n < 2 ^ 64 ⌝ }
     ensures { λ r. ⌜ r ≡ countBefore dyckBefore (now (object .entry)) (dyckWords n) ⌝ }
 {
@@ -27,7 +26,7 @@ pub fn rank(n: u64, object: &[u8]) -> u64
 
 // The word of a rank.
 pub fn unrank(rank: u64, n: u64, object: &mut [u8])
-    requires { ⌜ (n ≤ branches) × (length (now object) ≡ 2 * n) ⌝ }
+    requires { ⌜ length (now object) ≡ 2 * n ⌝ }
     requires { ⌜ catalanOf n < 2 ^ 64 ⌝ }
     requires { ⌜ rank < catalanOf n ⌝ }
     ensures { λ _. ⌜ At (dyckWords n) (now (object .exit)) rank ⌝ }

@@ -4,7 +4,6 @@ ghost use mathlib.Core.Path.{_≡_};
 ghost use mathlib.Core.Bool.{true};
 ghost use Prim.Native.Nat.{suc, _+_, _*_, _-_, _≤_, _<_, _^_};
 ghost use lib.ListN.{length};
-ghost use Rattle.numbers.specs.Limits.{branches};
 ghost use Rattle.numbers.specs.Numbers.{catalanOf};
 ghost use Rattle.listings.specs.Places.{At};
 ghost use Rattle.dyck_words.specs.Objects.{isDyckWord};
@@ -17,7 +16,7 @@ use dyck_words::inside_len;
 
 // Words with n of each, where their number fits.
 fn ways(n: u64) -> u64
-    requires { ⌜ (n ≤ branches) × (catalanOf n < 2 ^ 64) ⌝ }
+    requires { ⌜ catalanOf n < 2 ^ 64 ⌝ }
     ensures { λ r. ⌜ r ≡ catalanOf n ⌝ }
 {
     catalan_that_fits(n)
@@ -25,7 +24,7 @@ fn ways(n: u64) -> u64
 
 // Words with n + 1 of each whose inside has j.
 fn with_inside(n: u64, j: u64) -> u64
-    requires { ⌜ (j ≤ n) × (n < branches) × (catalanOf (suc n) < 2 ^ 64) ⌝ }
+    requires { ⌜ (j ≤ n) × (catalanOf (suc n) < 2 ^ 64) ⌝ }
     ensures { λ r. ⌜ r ≡ catalanOf j * catalanOf (n - j) ⌝ }
 {
     ways(j) * ways(n - j)
@@ -33,7 +32,7 @@ fn with_inside(n: u64, j: u64) -> u64
 
 // Words with n + 1 of each whose inside has fewer than j.
 fn shorter_insides(n: u64, j: u64) -> u64
-    requires { ⌜ (j ≤ n) × (n < branches) × (catalanOf (suc n) < 2 ^ 64) ⌝ }
+    requires { ⌜ (j ≤ n) × (catalanOf (suc n) < 2 ^ 64) ⌝ }
     ensures { λ r. ⌜ r ≡ shorter n j ⌝ }
 {
     let mut sum: u64 = 0;
@@ -47,7 +46,7 @@ fn shorter_insides(n: u64, j: u64) -> u64
 
 // Ranking lends the inside and the rest to itself as parts from the middle of the word.
 pub fn rank_of(n: u64, object: &[u8], rows: &[u8; ROWS], after: usize) -> u64
-    requires { ⌜ (n ≤ branches) × (isDyckWord n (now object) ≡ true) ⌝ }
+    requires { ⌜ isDyckWord n (now object) ≡ true ⌝ }
     requires { ⌜ (after + length (now object) < 2 ^ 64) × Told (now object) after (now rows) ⌝ }
     requires { ⌜ catalanOf n < 2 ^ 64 ⌝ }
     ensures { λ r. ⌜ At (dyckWords n) (now (object .entry)) r ⌝ }
@@ -69,7 +68,7 @@ pub fn rank_of(n: u64, object: &[u8], rows: &[u8; ROWS], after: usize) -> u64
 
 // The size of the inside of the word of a rank, of n + 1 of each: as many have a smaller one as fit into the rank.
 fn inside_size(rank: u64, n: u64) -> u64
-    requires { ⌜ (n < branches) × (catalanOf (suc n) < 2 ^ 64) × (rank < catalanOf (suc n)) ⌝ }
+    requires { ⌜ (catalanOf (suc n) < 2 ^ 64) × (rank < catalanOf (suc n)) ⌝ }
     ensures { λ r. ⌜ (r ≤ n) × (shorter n r ≤ rank) × (rank < shorter n (suc r)) ⌝ }
 {
     let mut left = rank;
@@ -83,7 +82,7 @@ fn inside_size(rank: u64, n: u64) -> u64
 
 // Writes the word of a rank: what is left behind the shorter insides, divided by the rests, gives the ranks of the inside and the rest.
 pub fn write_word(rank: u64, n: u64, object: &mut [u8])
-    requires { ⌜ (n ≤ branches) × (length (now object) ≡ 2 * n) ⌝ }
+    requires { ⌜ length (now object) ≡ 2 * n ⌝ }
     requires { ⌜ catalanOf n < 2 ^ 64 ⌝ }
     requires { ⌜ rank < catalanOf n ⌝ }
     ensures { λ _. ⌜ At (dyckWords n) (now (object .exit)) rank ⌝ }

@@ -36,7 +36,7 @@ rank-of-calls t = (inside-len-reads.Asked, inside-len-reads.Learnt, rank-of-belo
 
 -- the word in its parts
 parts : (t : ℕ) (c : rank-of-lts.After-inside-len (rank-of-calls t) (rank-of-at t) rank-of.Post) → Cut (c .before .before .before .args .n) (c .before .before .before .args .object .now) (c .inside-len .result)
-parts t c = cut (c .before .before .before .args .n) (c .before .before .before .args .object .now) (c .before .before .before .pre .1 .0 .1) (c .before .if1 .left) (c .inside-len .ensures)
+parts t c = cut (c .before .before .before .args .n) (c .before .before .before .args .object .now) (c .before .before .before .pre .1 .0) (c .before .if1 .left) (c .inside-len .ensures)
 
 -- where it stands
 stands : (t : ℕ) (c : rank-of-lts.After-ways (rank-of-calls t) (rank-of-at t) rank-of.Post) → At (dyckWords (c .before .before .before .before .before .before .before .before .before .args .n)) (c .before .before .before .before .before .before .before .before .before .args .object .now) (c .before .shorter-insides .result + c .before .before .before .before .rank-of .result * c .ways .result + c .before .before .rank-of2 .result)
@@ -46,12 +46,12 @@ below : (t : ℕ) (c : rank-of-lts.After-ways (rank-of-calls t) (rank-of-at t) r
 below t c = omega (arith, place-below (c .before .before .before .before .before .before .before .before .before .args .n) (c .before .shorter-insides .result + c .before .before .before .before .rank-of .result * c .ways .result + c .before .before .rank-of2 .result) (stands t c), c .before .before .before .before .before .before .before .before .before .pre .1 .1 .1)
 
 rank-of-returns : (t : ℕ) → rank-of-lts.Need-returns (rank-of-calls t) (rank-of-at t) rank-of.Post
-rank-of-returns t c = empty-at (c .if1 .taken) (long (c .before .before .args .n) (c .before .before .args .object .now) (c .before .before .pre .1 .0 .1))
+rank-of-returns t c = empty-at (c .if1 .taken) (long (c .before .before .args .n) (c .before .before .args .object .now) (c .before .before .pre .1 .0))
 
 rank-of-inside-len-requires : (t : ℕ) → rank-of-lts.Need-inside-len-requires (rank-of-calls t) (rank-of-at t) rank-of.Post
 rank-of-inside-len-requires t c κs =
     let start = c .before .before in
-    ((omega (arith, long (start .args .n) (start .args .object .now) (start .pre .1 .0 .1)), start .pre .1 .1 .0 .0), start .pre .1 .1 .0 .1)
+    ((omega (arith, long (start .args .n) (start .args .object .now) (start .pre .1 .0)), start .pre .1 .1 .0 .0), start .pre .1 .1 .0 .1)
 
 rank-of-add-close : (t : ℕ) → rank-of-lts.Need-add-close (rank-of-calls t) (rank-of-at t) rank-of.Post
 rank-of-add-close t c = omega (arith, parts t c .inside)
@@ -86,7 +86,7 @@ rank-of-rank-of-requires t c κs =
     let p = parts t (c .before) in (
       omega (arith, p .within),
       (
-        (omega (arith, p .within), inner-word p),
+        inner-word p,
         ((omega (arith, p .inside, ap length (p .inner-part), p .inner-long, start .pre .1 .1 .0 .0), inner-told p (start .pre .1 .1 .0 .1)), lt-of-le-of-lt (catalan-mono (omega (arith, p .within))) (start .pre .1 .1 .1)),
       ),
     )
@@ -106,7 +106,7 @@ rank-of-rank-of-requires-2 t c κs =
     let p = parts t (c .before .before .before) in (
       omega arith,
       (
-        (omega arith, outer-word p),
+        outer-word p,
         ((omega (arith, p .inside, ap length (p .outer-part), p .rest-long, start .pre .1 .1 .0 .0), outer-told p (start .pre .1 .1 .0 .1)), lt-of-le-of-lt (catalan-mono (omega arith)) (start .pre .1 .1 .1)),
       ),
     )
@@ -115,10 +115,10 @@ rank-of-shorter-insides-requires : (t : ℕ) → rank-of-lts.Need-shorter-inside
 rank-of-shorter-insides-requires t c κs =
     let p = parts t (c .before .before .before .before) in
     let whole : suc (c .before .before .before .before .before .before .before .args .n - 1) ≡ c .before .before .before .before .before .before .before .args .n = omega arith in
-    (p .within, omega arith, rw whole (c .before .before .before .before .before .before .before .pre .1 .1 .1))
+    (p .within, rw whole (c .before .before .before .before .before .before .before .pre .1 .1 .1))
 
 rank-of-ways-requires : (t : ℕ) → rank-of-lts.Need-ways-requires (rank-of-calls t) (rank-of-at t) rank-of.Post
-rank-of-ways-requires t c κs = (omega arith, lt-of-le-of-lt (catalan-mono (omega arith)) (c .before .before .before .before .before .before .before .before .pre .1 .1 .1))
+rank-of-ways-requires t c κs = lt-of-le-of-lt (catalan-mono (omega arith)) (c .before .before .before .before .before .before .before .before .pre .1 .1 .1)
 
 rank-of-mul-result : (t : ℕ) → rank-of-lts.Need-mul-result (rank-of-calls t) (rank-of-at t) rank-of.Post
 rank-of-mul-result t c = omega (arith, below t c)

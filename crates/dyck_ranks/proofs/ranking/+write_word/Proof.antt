@@ -51,7 +51,7 @@ filled-long t c = filled-length (c .before .before .before .before .before .befo
 write-word-returns : (t : ℕ) → write-word-lts.Need-returns (write-word-calls t) (write-word-at t) write-word.Post
 write-word-returns t c =
     let zeroth : c .before .before .args .rank ≡ 0 = omega (arith, ap catalanOf (c .if1 .taken), catalan-zero) in
-    subst (At (dyckWords (c .before .before .args .n)) (c .before .before .args .object .now)) (sym zeroth) (empty-at (c .if1 .taken) (c .before .before .pre .1 .0 .1))
+    subst (At (dyckWords (c .before .before .args .n)) (c .before .before .args .object .now)) (sym zeroth) (empty-at (c .if1 .taken) (c .before .before .pre .1 .0))
 
 write-word-sub-m : (t : ℕ) → write-word-lts.Need-sub-m (write-word-calls t) (write-word-at t) write-word.Post
 write-word-sub-m t c = omega arith
@@ -59,7 +59,7 @@ write-word-sub-m t c = omega arith
 write-word-inside-size-requires : (t : ℕ) → write-word-lts.Need-inside-size-requires (write-word-calls t) (write-word-at t) write-word.Post
 write-word-inside-size-requires t c κs =
     let whole : suc (c .before .before .args .n - 1) ≡ c .before .before .args .n = omega arith in
-    (omega arith, rw whole (c .before .before .pre .1 .1 .0), rw whole (c .before .before .pre .1 .1 .1))
+    (rw whole (c .before .before .pre .1 .1 .0), rw whole (c .before .before .pre .1 .1 .1))
 
 write-word-sub-k : (t : ℕ) → write-word-lts.Need-sub-k (write-word-calls t) (write-word-at t) write-word.Post
 write-word-sub-k t c = omega arith
@@ -67,13 +67,13 @@ write-word-sub-k t c = omega arith
 write-word-shorter-insides-requires : (t : ℕ) → write-word-lts.Need-shorter-insides-requires (write-word-calls t) (write-word-at t) write-word.Post
 write-word-shorter-insides-requires t c κs =
     let whole : suc (c .before .before .before .args .n - 1) ≡ c .before .before .before .args .n = omega arith in
-    (omega arith, omega arith, rw whole (c .before .before .before .pre .1 .1 .0))
+    (omega arith, rw whole (c .before .before .before .pre .1 .1 .0))
 
 write-word-sub-left : (t : ℕ) → write-word-lts.Need-sub-left (write-word-calls t) (write-word-at t) write-word.Post
 write-word-sub-left t c = omega arith
 
 write-word-ways-requires : (t : ℕ) → write-word-lts.Need-ways-requires (write-word-calls t) (write-word-at t) write-word.Post
-write-word-ways-requires t c κs = (omega arith, lt-of-le-of-lt (catalan-mono (omega arith)) (c .before .before .before .before .pre .1 .1 .0))
+write-word-ways-requires t c κs = lt-of-le-of-lt (catalan-mono (omega arith)) (c .before .before .before .before .pre .1 .1 .0)
 
 write-word-div-inside-rank : (t : ℕ) → write-word-lts.Need-div-inside-rank (write-word-calls t) (write-word-at t) write-word.Post
 write-word-div-inside-rank t c = fair t c .rests
@@ -107,7 +107,7 @@ write-word-write-word-requires t c κs =
     let start = c .before .before .before .before .before .before in
     let close = 2 * c .before .before .before .inside-size .result + 1 in
     let long = inside-length (start .args .object .now) close (closes t (c .before)) in
-    (omega arith, ((omega arith, omega (arith, long)), (lt-of-le-of-lt (catalan-mono (omega arith)) (start .pre .1 .1 .0), fair t (c .before) .inside)))
+    (omega arith, (omega (arith, long), (lt-of-le-of-lt (catalan-mono (omega arith)) (start .pre .1 .1 .0), fair t (c .before) .inside)))
 
 write-word-add-write-word : (t : ℕ) → write-word-lts.Need-add-write-word (write-word-calls t) (write-word-at t) write-word.Post
 write-word-add-write-word t c = omega arith
@@ -127,7 +127,7 @@ write-word-write-word-requires-2 t c κs =
     let inner = c .before .before .before .write-word in
     let close = 2 * c .before .before .before .before .before .before .before .inside-size .result + 1 in
     let long = rest-length (start .args .object .now) (inner .last .1 .1 .0) close (omega arith) (closes t (c .before .before .before .before .before)) (inner .kept .1 .1 .0) in
-    (omega arith, ((omega arith, omega (arith, long)), (lt-of-le-of-lt (catalan-mono (omega arith)) (start .pre .1 .1 .0), fair t (c .before .before .before .before .before) .rest)))
+    (omega arith, (omega (arith, long), (lt-of-le-of-lt (catalan-mono (omega arith)) (start .pre .1 .1 .0), fair t (c .before .before .before .before .before) .rest)))
 
 write-word-same-length : (t : ℕ) → write-word-lts.Need-same-length (write-word-calls t) (write-word-at t) write-word.Post
 write-word-same-length t c =

@@ -20,7 +20,7 @@ loop-holds c = (omega arith, rw shorter-zero (omega arith))
 
 -- a turn ends with a longer inside
 longer : (c : tie.After-with-inside2 Inv-loop μ-loop) → c .before .before .before .loop .j < c .before .before .before .before .args .n
-longer c = goes-on (c .before .before .before .before .args .n) (c .before .before .before .loop .j) (c .before .before .before .loop .left) (c .before .before .before .loop .inv .0) (c .before .before .before .loop .inv .1) (omega arith) (c .before .before .before .before .pre .2)
+longer c = goes-on (c .before .before .before .before .args .n) (c .before .before .before .loop .j) (c .before .before .before .loop .left) (c .before .before .before .loop .inv .0) (c .before .before .before .loop .inv .1) (omega arith) (c .before .before .before .before .pre .1)
 
 with-inside-requires : tie.Need-with-inside-requires Inv-loop μ-loop
 with-inside-requires c κs = omega arith
@@ -32,7 +32,7 @@ sub-left : tie.Need-sub-left Inv-loop μ-loop
 sub-left c = omega arith
 
 add-j : tie.Need-add-j Inv-loop μ-loop
-add-j c = omega arith
+add-j c = omega (arith, longer c)
 
 loop-less : tie.Need-loop-less Inv-loop μ-loop
 loop-less c = omega (arith, longer c)

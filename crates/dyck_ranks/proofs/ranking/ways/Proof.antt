@@ -10,7 +10,7 @@ catalan-that-fits-requires : tie.Need-catalan-that-fits-requires
 catalan-that-fits-requires c κs = search needs
 
 returns : tie.Need-returns
-returns c = c .catalan-that-fits .ensures ∙ if-small (c .before .pre .1)
+returns c = c .catalan-that-fits .ensures ∙ if-small (c .before .pre)
 
 pub ways-spec : {M : Type 1} → statement M
 ways-spec = tie.close (tie.spec catalan-that-fits-requires returns)

@@ -8,17 +8,17 @@ use Rattle.dyck_ranks.proofs.ranking.with_inside.Statement.{statement}
 use Rattle.dyck_ranks.proofs.ranking.with_inside.Tie as tie
 
 ways-requires : tie.Need-ways-requires
-ways-requires c κs = let p = c .pre in (omega arith, lt-of-le-of-lt (catalan-mono (omega arith)) (p .2))
+ways-requires c κs = let p = c .pre in lt-of-le-of-lt (catalan-mono (omega arith)) (p .1)
 
 sub-ways : tie.Need-sub-ways
 sub-ways c = search needs
 
 ways-requires-2 : tie.Need-ways-requires-2
-ways-requires-2 c κs = let p = c .before .pre in (omega arith, lt-of-le-of-lt (catalan-mono (omega arith)) (p .2))
+ways-requires-2 c κs = let p = c .before .pre in lt-of-le-of-lt (catalan-mono (omega arith)) (p .1)
 
 mul-result : tie.Need-mul-result
 mul-result c = let p = c .before .before .pre in
-    record { fits = rw (c .before .ways .ensures, c .ways2 .ensures) (lt-of-le-of-lt (product-le (c .before .before .args .n) (c .before .before .args .j) (p .0)) (p .2)) }
+    record { fits = rw (c .before .ways .ensures, c .ways2 .ensures) (lt-of-le-of-lt (product-le (c .before .before .args .n) (c .before .before .args .j) (p .0)) (p .1)) }
 
 returns : tie.Need-returns
 returns c = rw (c .before .ways .ensures, c .ways2 .ensures)
