@@ -1,5 +1,5 @@
-// Prints the counts that the lines of standard input ask for, on each side of 2^64, and then every count within the limits and one step
-// beyond them. A line of the input is the text to print, a colon, and the numbers: n and k, or the counts of a multinomial.
+// Prints the counts that the lines of standard input ask for, on each side of 2^64, and then every count of one number or two, so all but the
+// multinomials, within the limits and one step beyond them. A line of the input is the text to print, a colon, and the numbers: n and k, or the counts of a multinomial.
 //
 // The expected text, `stdout`, is written by tests/expected/counts.py: math.comb and math.factorial for binomials, factorials and Catalan
 // numbers, factorials for multinomials, the alternating sum over binomials for Stirling numbers (not their recursion), and the number of
