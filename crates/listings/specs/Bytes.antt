@@ -5,7 +5,7 @@ use mathlib.Core.List.{List, [], _∷_}
 use Prim.Native.Nat.{ℕ}
 use lib.Dec.{eqb}
 
--- "An object is a lent byte string, one byte a place"
+-- "An object is a lent byte string, one byte a place" (SCOPE 1.a)
 abbrev pub Bytes : Type 0
 Bytes = List ℕ
 

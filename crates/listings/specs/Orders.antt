@@ -1,4 +1,4 @@
--- The two orders on byte strings of one length that several kinds share.
+-- The two orders on byte strings of one length that several kinds share (SCOPE 2).
 -- Assumes nothing.
 use mathlib.Core.Bool.{Bool, true, false, _&&_, _||_}
 use mathlib.Core.List.{List, [], _∷_}
@@ -6,13 +6,13 @@ use Prim.Native.Nat.{ℕ}
 use lib.Dec.{ltb, eqb}
 use Rattle.listings.specs.Bytes.{Bytes, same}
 
--- lexicographic order, of kinds 2 and 3: "at the first place where they differ, the smaller letter"
+-- lexicographic order, of kinds 2 and 3: "at the first place where they differ, the smaller letter" (SCOPE 2.2, 2.3)
 unfoldable pub lexBefore : Bytes → Bytes → Bool
 lexBefore [] y = false
 lexBefore (a ∷ x) [] = false
 lexBefore (a ∷ x) (b ∷ y) = ltb a b || (eqb a b && lexBefore x y)
 
--- colexicographic order, of kinds 1 and 5: "at the last place where they differ, the smaller site number", "the smaller part"
+-- colexicographic order, of kinds 1 and 5: "at the last place where they differ, the smaller site number", "the smaller part" (SCOPE 2.1, 2.5)
 unfoldable pub colexBefore : Bytes → Bytes → Bool
 colexBefore [] y = false
 colexBefore (a ∷ x) [] = false

@@ -1,4 +1,4 @@
--- A row of paper 01's table of families, said of one family with everything lent beside it, and the laws that each kind proves of its row.
+-- A row of paper 01's table of families (SCOPE 1), said of one family with everything lent beside it, and the laws that each kind proves of its row.
 -- Assumes nothing.
 use mathlib.Core.Path.{_≡_}
 use mathlib.Core.Bool.{Bool, true}
@@ -10,22 +10,23 @@ use Rattle.numbers.specs.Limits.{longestObject}
 use Rattle.listings.specs.Bytes.{Bytes}
 use Rattle.listings.specs.Listings.{Listing}
 
+-- what the table, the order and the counting rule of one kind say of a family
 pub record Row : Type 0 where
-  -- "n, k": are they within the table?
+  -- "n, k": are they within the table? (SCOPE 4.2)
   pub inBounds : Bool
-  -- does the list lent beside the family fit?
+  -- does the list lent beside the family fit? (SCOPE 4.3)
   pub listsFit : Bool
-  -- "length"
+  -- the column "length" (SCOPE 1)
   pub objectLength : ℕ
-  -- "object"
+  -- the column "object" (SCOPE 1)
   pub isObject : Bytes → Bool
-  -- "Which of two objects comes first"
+  -- "Which of two objects comes first" (SCOPE 2)
   pub comesBefore : Bytes → Bytes → Bool
-  -- all objects in that order
+  -- all objects in that order (SCOPE 5.1)
   pub listing : List Bytes
-  -- how many there are, as the kind's counting rule says
+  -- how many there are, as the kind's counting rule says (SCOPE 6)
   pub number : ℕ
-  -- is there one? as the paper says it by n and k
+  -- is there one? as the paper says it by n and k (SCOPE 1.b)
   pub hasObject : Bool
 
 -- what each kind proves of its row; the last three hold within the row's own bounds and lists

@@ -1,9 +1,9 @@
--- Sums over a list of choices, as the families' counts are written.
+-- Sums over a list of choices, as the families' counts (SCOPE 6) are written.
 -- Assumes nothing.
 use Prim.Native.Nat.{ℕ, zero, suc, _+_}
 use mathlib.Core.List.{List, [], _∷_}
 
--- the sum of a list: of letter counts, the length of the word
+-- the sum of a list: of letter counts, the length of the word (SCOPE 1.2)
 unfoldable pub total : List ℕ → ℕ
 total [] = 0
 total (c ∷ cs) = c + total cs
