@@ -1,4 +1,4 @@
--- The listing of anagrams: by the first letter, ascending, each before the words that the letters left can make.
+-- The listing (SCOPE 5.1) of anagrams: by the first letter, ascending, each before the words that the letters left can make.
 -- Assumes nothing.
 use mathlib.Core.List.{List, [], _∷_, map, flatMap}
 use Prim.Native.Nat.{ℕ, zero, suc}
@@ -11,6 +11,6 @@ unfoldable pub words : ℕ → List ℕ → List Bytes
 words zero cs = [] ∷ []
 words (suc m) cs = flatMap (λ i. map (λ x. suc i ∷ x) (words m (oneLess cs i))) (lettersFrom 0 cs)
 
--- "the counts sum to at most 80", and the length is "that sum"
+-- words of all the letters: the length is "that sum", of the counts; in the order by the first place (SCOPE 1.2, 2.2)
 unfoldable pub anagrams : List ℕ → List Bytes
 anagrams cs = words (total cs) cs

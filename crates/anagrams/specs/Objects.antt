@@ -1,4 +1,4 @@
--- Kind 2, anagrams ("hanging"), words of a multiset of letters: the test of being one, and the order.
+-- Kind 2, anagrams ("hanging"), words of a multiset of letters: the test of being one, and the order (SCOPE 1.2, 2.2).
 -- Assumes nothing.
 use mathlib.Core.Bool.{Bool, true, _&&_}
 use mathlib.Core.List.{List, [], _∷_}
@@ -20,10 +20,10 @@ unfoldable pub tallies : ℕ → List ℕ → Bytes → Bool
 tallies i [] x = true
 tallies i (c ∷ cs) x = eqb (occurrences i x) c && tallies (suc i) cs x
 
--- "word with letter i exactly as often as count i says, i from 1 to n", and, by its length, no other letter
+-- "word with letter i exactly as often as count i says, i from 1 to n", and, by its length, no other letter (SCOPE 1.2)
 unfoldable pub isAnagram : List ℕ → Bytes → Bool
 isAnagram cs x = eqb (length x) (total cs) && tallies 1 cs x
 
--- "at the first place where they differ, the smaller letter"
+-- "at the first place where they differ, the smaller letter" (SCOPE 2.2)
 abbrev pub anagramBefore : Bytes → Bytes → Bool
 anagramBefore = lexBefore

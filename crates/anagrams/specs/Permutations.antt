@@ -1,4 +1,4 @@
--- Kind 3, permutations ("pouring order"): the anagrams with every letter once.
+-- Kind 3, permutations ("pouring order"): the anagrams with every letter once (SCOPE 1.3, 2.3).
 -- Assumes nothing.
 use mathlib.Core.Bool.{Bool}
 use mathlib.Core.List.{List}
@@ -12,10 +12,10 @@ use Rattle.anagrams.specs.Listing.{anagrams}
 abbrev pub ones : ℕ → List ℕ
 ones n = replicate n 1
 
--- "each of 1 to n"
+-- "each of 1 to n" (SCOPE 1.3)
 abbrev pub isPermutation : ℕ → Bytes → Bool
 isPermutation n x = isAnagram (ones n) x
 
--- in the order of kind 2
+-- in the order of kind 2 (SCOPE 2.3)
 abbrev pub permutations : ℕ → List Bytes
 permutations n = anagrams (ones n)

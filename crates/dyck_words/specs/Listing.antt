@@ -1,4 +1,4 @@
--- The listing of Dyck words, after Loehr: by the inside's size, then the inside, then the rest.
+-- The listing (SCOPE 5.1) of Dyck words, after Loehr: by the inside's size, then the inside, then the rest.
 -- Assumes nothing.
 use mathlib.Core.List.{List, [], _∷_, map, flatMap}
 use Prim.Native.Nat.{ℕ, zero, suc, _-_}
@@ -20,6 +20,6 @@ treesDown (suc n) = flatMap (λ j. nodes (getD (treesDown n) (n - j) []) (getD (
 unfoldable pub trees : ℕ → List Tree
 trees n = getD (treesDown n) 0 []
 
--- "2n bytes", as the trees are listed
+-- "2n bytes", as the trees are listed (SCOPE 1.6, 2.6)
 unfoldable pub dyckWords : ℕ → List Bytes
 dyckWords n = map word (trees n)

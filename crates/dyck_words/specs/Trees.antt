@@ -1,4 +1,4 @@
--- A Dyck word that isn't empty "is 1, an inside plan, 0, a rest plan, in one way only": a binary tree, and the order by it.
+-- A Dyck word that isn't empty "is 1, an inside plan, 0, a rest plan, in one way only" (SCOPE 1.d): a binary tree, and the order by it (SCOPE 2.6).
 -- Assumes nothing.
 use mathlib.Core.Bool.{Bool, true, false, _&&_, _||_}
 use mathlib.Core.List.{List, [], _∷_, _++_}
@@ -7,7 +7,7 @@ use lib.Dec.{ltb, eqb}
 use lib.ListN.{getD}
 use Rattle.listings.specs.Bytes.{Bytes}
 
--- a row of paper 01: no branch, or a branch (a prime word, 1 inside 0) and the rest of the row
+-- a row of paper 01: no branch, or a branch (a prime word, 1 inside 0) and the rest of the row (SCOPE 1.d)
 pub data Tree : Type 0 where
   leaf : Tree
   node : Tree → Tree → Tree
@@ -17,19 +17,19 @@ unfoldable pub size : Tree → ℕ
 size leaf = 0
 size (node i r) = suc (size i + size r)
 
--- "1, an inside plan, 0, a rest plan"
+-- "1, an inside plan, 0, a rest plan" (SCOPE 1.d)
 unfoldable pub word : Tree → Bytes
 word leaf = []
 word (node i r) = 1 ∷ (word i ++ (0 ∷ word r))
 
--- "at equal insides"
+-- are they equal? "at equal insides" (SCOPE 2.6)
 unfoldable pub sameTree : Tree → Tree → Bool
 sameTree leaf leaf = true
 sameTree leaf (node j s) = false
 sameTree (node i r) leaf = false
 sameTree (node i r) (node j s) = sameTree i j && sameTree r s
 
--- "The shorter inside first; at equal length the earlier inside; at equal insides the earlier rest"
+-- "The shorter inside first; at equal length the earlier inside; at equal insides the earlier rest" (SCOPE 2.6)
 unfoldable pub treeBefore : Tree → Tree → Bool
 treeBefore leaf u = false
 treeBefore (node i r) leaf = false
@@ -48,10 +48,10 @@ openRows [] = leaf ∷ []
 openRows (zero ∷ x) = leaf ∷ openRows x
 openRows (suc b ∷ x) = join (openRows x)
 
--- the tree of a word
+-- the tree of a word (SCOPE 1.d)
 unfoldable pub parse : Bytes → Tree
 parse x = getD (openRows x) 0 leaf
 
--- "Which of two objects comes first", kind 6
+-- "Which of two objects comes first", kind 6 (SCOPE 2.6)
 unfoldable pub dyckBefore : Bytes → Bytes → Bool
 dyckBefore x y = treeBefore (parse x) (parse y)

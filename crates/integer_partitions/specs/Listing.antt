@@ -1,11 +1,11 @@
--- The listing of integer partitions, after Loehr: by the last part p, ascending from the floor; the other parts are at least p.
+-- The listing (SCOPE 5.1) of integer partitions, after Loehr: by the last part p, ascending from the floor; the other parts are at least p.
 -- Assumes nothing.
 use mathlib.Core.List.{List, [], _∷_, _++_, map, flatMap}
 use Prim.Native.Nat.{ℕ, zero, suc, _-_}
 use Rattle.numbers.specs.Sums.{range}
 use Rattle.listings.specs.Bytes.{Bytes}
 
--- parts that are at least f, with the sum n, k of them
+-- parts that are at least f, with the sum n, k of them; with 1 for f, kind 5 in its order (SCOPE 1.5, 2.5)
 unfoldable pub integerPartitions : ℕ → ℕ → ℕ → List Bytes
 integerPartitions f zero zero = [] ∷ []
 integerPartitions f (suc n) zero = []

@@ -1,4 +1,4 @@
--- The listing of set partitions, after Loehr: by the key of the last model, over the list of the keys in their order.
+-- The listing (SCOPE 5.1) of set partitions, after Loehr: by the key of the last model, over the list of the keys in their order.
 -- Assumes nothing.
 use mathlib.Core.List.{List, [], _∷_, _++_, map, flatMap}
 use Prim.Native.Nat.{ℕ, zero, suc}
@@ -14,7 +14,7 @@ unfoldable pub withKey : List Bytes → List Bytes → ℕ → ℕ → List Byte
 withKey alone joined k zero = map (λ x. x ++ (k ∷ [])) alone
 withKey alone joined k (suc b) = map (λ x. x ++ (suc b ∷ [])) joined
 
--- n models in k blocks
+-- n models in k blocks, in the order by the keys (SCOPE 1.4, 2.4)
 unfoldable pub setPartitions : ℕ → ℕ → List Bytes
 setPartitions zero zero = [] ∷ []
 setPartitions zero (suc k) = []

@@ -1,4 +1,5 @@
--- Kind 4 by membership and places: what a set partition is, and which models have key 0. That the definitions of Objects say this: proofs/Meaning.antt.
+-- Kind 4 by membership and places: what a set partition is (SCOPE 1.4), and which models have key 0 (SCOPE 2.4).
+-- That the definitions of Objects say this: proofs/Meaning.antt.
 -- Assumes nothing.
 use mathlib.Core.Path.{_≡_}
 use mathlib.Core.List.{List·Memᴰ}
@@ -7,19 +8,20 @@ use lib.ListN.{length}
 use Rattle.listings.specs.Bytes.{Bytes}
 use Rattle.listings.specs.Places.{At}
 
--- "byte i is the block of model i", with places counted from 0: the model at place i is "the smallest of its block", b, so none before it is in b
+-- "byte i is the block of model i" (SCOPE 1.4), with places counted from 0: the model at place i is "the smallest of its block" (SCOPE 2.4), b, so none
+-- before it is in b
 pub record Smallest (x : Bytes) (i b : ℕ) : Type 0 where
   pub here : At x b i
   pub first : (j : ℕ) → j < i → At x b j → ⊥
 
--- "else": the model at place i is in block b, and so is one before it
+-- "else" (SCOPE 2.4): the model at place i is in block b, and so is one before it
 pub record Later (x : Bytes) (i b : ℕ) : Type 0 where
   pub here : At x b i
   pub earlier : ℕ
   pub before : earlier < i
   pub there : At x b earlier
 
--- n models into k blocks
+-- n models into k blocks (SCOPE 1.4)
 pub record SetPartition (n k : ℕ) (x : Bytes) : Type 0 where
   -- a byte a model
   pub models : length x ≡ n

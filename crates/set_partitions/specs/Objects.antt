@@ -1,4 +1,4 @@
--- Kind 4, set partitions ("flask sharing"): the test of being one of n models into k blocks, the keys, and the order.
+-- Kind 4, set partitions ("flask sharing"): the test of being one of n models into k blocks, the keys, and the order (SCOPE 1.4, 2.4).
 -- Meaning says the test and the keys by membership and places; the theorems named below, of proofs/Meaning.antt, show that it is the same.
 -- Assumes nothing.
 use mathlib.Core.Bool.{Bool, true, false, _&&_}
@@ -9,26 +9,28 @@ use lib.ListN.{length}
 use Rattle.listings.specs.Bytes.{Bytes}
 use Rattle.listings.specs.Orders.{colexBefore}
 
--- with the blocks 1 to m used so far, the next model is in one of them or is the smallest of block m + 1; at the end all k are used (`means`, `meant`)
+-- with the blocks 1 to m used so far, the next model is in one of them or is the smallest of block m + 1; at the end all k are used (SCOPE 1.c;
+-- `means`, `meant`)
 unfoldable pub opens : ℕ → ℕ → Bytes → Bool
 opens m k [] = eqb m k
 opens m k (b ∷ x) = leb 1 b && leb b (suc m) && opens (max m b) k x
 
--- "byte i is the block of model i; blocks are 1 to k, all used, numbered by their smallest model": `SetPartition` of Meaning, by `means` and `meant`
+-- "byte i is the block of model i; blocks are 1 to k, all used, numbered by their smallest model" (SCOPE 1.4): `SetPartition` of Meaning, by `means`
+-- and `meant`
 unfoldable pub isSetPartition : ℕ → ℕ → Bytes → Bool
 isSetPartition n k x = eqb (length x) n && opens 0 k x
 
--- a block above all used so far is a new one, and the model its smallest (`key-of-smallest`, `key-of-other`)
+-- the key in a block b: a block above all used so far is a new one, and the model its smallest (`key-of-smallest`, `key-of-other`)
 unfoldable pub keyOf : Bool → ℕ → ℕ
 keyOf true b = 0
 keyOf false b = b
 
--- "model i has key 0 if it is the smallest of its block, else its block number" (`key-of-smallest`, `key-of-other`;
+-- "model i has key 0 if it is the smallest of its block, else its block number" (SCOPE 2.4; `key-of-smallest`, `key-of-other`;
 -- each model is one of the two, `smallest-or-later`), with the blocks 1 to m used so far
 unfoldable pub keys : ℕ → Bytes → Bytes
 keys m [] = []
 keys m (b ∷ x) = keyOf (ltb m b) b ∷ keys (max m b) x
 
--- "At the largest i whose keys differ, the smaller key"
+-- "At the largest i whose keys differ, the smaller key" (SCOPE 2.4)
 unfoldable pub setPartitionBefore : Bytes → Bytes → Bool
 setPartitionBefore x y = colexBefore (keys 0 x) (keys 0 y)
