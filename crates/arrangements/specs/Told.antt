@@ -6,11 +6,11 @@ use lib.Dec.{eqb}
 use Rattle.listings.specs.Calls.{Answer, Said}
 use Rattle.families.specs.Codes.{codeOf, valueOf, Coded}
 
--- 0 for written and stepped too: a caller knows which call was made
+-- the code that is told: 0 for written and stepped too, since a caller knows which call was made
 unfoldable pub plain : ℕ → ℕ
 plain code = cond (eqb code 20 || eqb code 21) 0 code
 
--- of a call that leaves bytes
+-- what is told of a call that leaves bytes
 abbrev pub told : Said → Coded
 told s = (plain (codeOf (s .0)), s .1)
 
@@ -18,6 +18,6 @@ told s = (plain (codeOf (s .0)), s .1)
 abbrev pub Valued : Type 0
 Valued = ℕ × ℕ
 
--- of a call that leaves a number where v stood
+-- what is told of a call that leaves a number where v stood
 abbrev pub valued : Answer → ℕ → Valued
 valued a v = (plain (codeOf a), valueOf a v)

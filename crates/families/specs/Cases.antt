@@ -1,4 +1,4 @@
--- The twelve proof cases of paper 01, as one table of facts about the definitions; proofs/Cases.antt proves that all hold.
+-- The twelve proof cases of paper 01 (SCOPE 8), as one table of facts about the definitions; proofs/Cases.antt proves that all hold.
 -- Assumes nothing.
 use mathlib.Core.Path.{_≡_}
 use mathlib.Core.List.{List, [], _∷_}
@@ -15,44 +15,48 @@ pub data Fact : Type 0 where
   says : Call → Bytes → Said → Fact
   lists : List Bytes → Fact
 
--- a row of the table
+-- a row of the table (SCOPE 8)
 pub record Case : Type 0 where
   pub family : Family
   pub beside : Lent
   pub facts : List Fact
 
+-- a fact holds of a family: the definition of the call, or of the listing, is equal to it
 abbrev pub Holds : Family → Lent → Fact → Type 0
 Holds f b (says c x s) = respond c f b x ≡ s
 Holds f b (lists l) = listing f b ≡ l
 
+-- so does every fact of a list
 abbrev pub FactsHold : Family → Lent → List Fact → Type 0
 FactsHold f b [] = Unit
 FactsHold f b (fact ∷ facts) = Holds f b fact × FactsHold f b facts
 
+-- and every fact of every row
 abbrev pub CasesHold : List Case → Type 0
 CasesHold [] = Unit
 CasesHold (c ∷ cs) = FactsHold (c .family) (c .beside) (c .facts) × CasesHold cs
 
+-- a row by its kind, n, k, letter counts and facts
 abbrev pub case : ℕ → ℕ → ℕ → List ℕ → List Fact → Case
 case kind n k cs facts = record { family = plainFamily kind n k; beside = onlyCounts cs; facts = facts }
 
--- "has rank"
+-- "has rank" (SCOPE 8)
 abbrev pub ranked : Bytes → ℕ → Fact
 ranked x r = says RANK x (RANKED r, x)
 
--- "count"
+-- "count" (SCOPE 8)
 abbrev pub counted : ℕ → Fact
 counted n = says COUNT [] (COUNTED n, [])
 
--- "after .. comes"
+-- "after .. comes" (SCOPE 8)
 abbrev pub next : Bytes → Bytes → Fact
 next x y = says NEXT x (STEPPED, y)
 
--- LAST writes x over bytes of its length
+-- "the last" (SCOPE 8): LAST writes x over bytes w of its length
 abbrev pub last : Bytes → Bytes → Fact
 last w x = says LAST w (WRITTEN, x)
 
--- "Proof cases", in the order of the paper
+-- "Proof cases", in the order of the paper (SCOPE 8.1 to 8.12)
 abbrev pub cases : List Case
 cases =
     case 1 8 4 [] (ranked (3 ∷ 4 ∷ 6 ∷ 7 ∷ []) 30 ∷ [])

@@ -4,7 +4,7 @@ use Prim.Native.Nat.{ℕ}
 use Rattle.listings.specs.Bytes.{Bytes}
 use Rattle.listings.specs.Calls.{Answer, REFUSED, COUNTED, RANKED, MEASURED, WRITTEN, STEPPED, END, Said}
 
--- "the number of the first question it misses"; 20 written, 21 stepped, 100 END; 0 for an answer that is a number of its own
+-- a refusal "hands back its number only" (SCOPE 4.a); 20 written, 21 stepped, 100 END; 0 for an answer that is a number of its own
 unfoldable pub codeOf : Answer → ℕ
 codeOf (REFUSED q) = q
 codeOf (COUNTED n) = 0
@@ -28,5 +28,6 @@ valueOf END v = v
 abbrev pub Coded : Type 0
 Coded = ℕ × Bytes
 
+-- its code, and the lent bytes after it
 abbrev pub coded : Said → Coded
 coded s = (codeOf (s .0), s .1)

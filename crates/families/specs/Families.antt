@@ -1,4 +1,4 @@
--- What the table says of a family and everything lent beside it: whether it is allowed, its objects, their order, its listing and count.
+-- What the table (SCOPE 1) says of a family and everything lent beside it: whether it is allowed, its objects, their order, its listing and count.
 -- Assumes nothing.
 use mathlib.Core.Bool.{Bool, true, cond, _&&_}
 use mathlib.Core.List.{List, [], _∷_}
@@ -12,19 +12,19 @@ use Rattle.listings.specs.Calls.{Question}
 use Rattle.families.specs.declared.Family.{Family}
 use Rattle.families.specs.Table.{Lent, noRow, table, lastKind}
 
--- the family's row
+-- the family's row (SCOPE 1)
 unfoldable pub row : Family → Lent → Row
 row f b = getD (table f b) (f .kind) (noRow b)
 
--- question 1: "Is the kind 1 to 6?"
+-- question 1: "Is the kind 1 to 6?" (SCOPE 4.1)
 unfoldable pub isKind : Family → Bool
 isKind f = leb 1 (f .kind) && leb (f .kind) lastKind
 
--- question 2: "Are n and k within the table above?"
+-- question 2: "Are n and k within the table above?" (SCOPE 4.2)
 unfoldable pub inTable : Family → Lent → Bool
 inTable f b = row f b .inBounds
 
--- question 3: "Is the count list n long for kind 2 with a sum of at most 80, and empty for other kinds?"
+-- question 3: "Is the count list n long for kind 2 with a sum of at most 80, and empty for other kinds?" (SCOPE 4.3)
 unfoldable pub listsFit : Family → Lent → Bool
 listsFit f b = row f b .listsFit
 
@@ -32,7 +32,7 @@ listsFit f b = row f b .listsFit
 abbrev pub always : ℕ → Bool → Question
 always q answer = record { number = q; yes? = answer }
 
--- the questions that are put to every call
+-- the questions that are put to every call (SCOPE 4.1 to 4.3)
 unfoldable pub askedOfAll : Family → Lent → List Question
 askedOfAll f b = always 1 (isKind f) ∷ always 2 (inTable f b) ∷ always 3 (listsFit f b) ∷ []
 
@@ -41,30 +41,30 @@ unfoldable pub allYes : List Question → Bool
 allYes [] = true
 allYes (q ∷ qs) = q .yes? && allYes qs
 
--- what "the table above" allows
+-- what "the table above" allows (SCOPE 5.1)
 unfoldable pub allowed : Family → Lent → Bool
 allowed f b = allYes (askedOfAll f b)
 
--- the column "length"
+-- the column "length" (SCOPE 1)
 unfoldable pub objectLength : Family → Lent → ℕ
 objectLength f b = row f b .objectLength
 
--- x is an object of the family; "what the table above doesn't allow" has none
+-- x is an object of the family (SCOPE 1); "what the table above doesn't allow" has none (SCOPE 5.1)
 unfoldable pub isObject : Family → Lent → Bytes → Bool
 isObject f b x = allowed f b && row f b .isObject x
 
--- "Which of two objects comes first"
+-- "Which of two objects comes first" (SCOPE 2)
 unfoldable pub comesBefore : Family → Lent → Bytes → Bytes → Bool
 comesBefore f b = row f b .comesBefore
 
--- "The listing of a family is all its objects, each exactly once, in the order above; what the table above doesn't allow has an empty one"
+-- "The listing of a family is all its objects, each exactly once, in the order above; what the table above doesn't allow has an empty one" (SCOPE 5.1)
 unfoldable pub listing : Family → Lent → List Bytes
 listing f b = cond (allowed f b) (row f b .listing) []
 
--- "COUNT gives the number of objects"
+-- "COUNT gives the number of objects" (SCOPE 3.1)
 unfoldable pub countOf : Family → Lent → ℕ
 countOf f b = length (listing f b)
 
--- the rank: how many objects come before x, by the order
+-- the rank: how many objects come before x, by the order (SCOPE 2.a)
 unfoldable pub rankOf : Family → Lent → Bytes → ℕ
 rankOf f b x = countBefore (comesBefore f b) x (listing f b)

@@ -1,4 +1,4 @@
--- Paper 01's marker on the listing of a family.
+-- Paper 01's marker on the listing of a family (SCOPE 5).
 -- Assumes nothing.
 use mathlib.Core.List.{List}
 use Rattle.listings.specs.Bytes.{Bytes}
@@ -9,6 +9,6 @@ use Rattle.families.specs.Table.{Lent}
 use Rattle.families.specs.Families.{listing}
 use Rattle.families.specs.Questions.{refusal}
 
--- "It is fed the family with everything lent beside it, the lent bytes before the first call, and the calls with their arguments"
+-- "It is fed the family with everything lent beside it, the lent bytes before the first call, and the calls with their arguments" (SCOPE 5.2)
 unfoldable pub marker : List Call → Family → Lent → Bytes → List Said
 marker cs f b s = markerRun (λ c. refusal c f b) (listing f b) s cs

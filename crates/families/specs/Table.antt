@@ -1,4 +1,4 @@
--- Paper 01's table of families: what is lent beside a family, and a row for each kind, over the family and everything lent.
+-- Paper 01's table of families (SCOPE 1): what is lent beside a family, and a row for each kind, over the family and everything lent.
 -- Assumes nothing.
 use mathlib.Core.Bool.{Bool, true, false, _&&_, _||_}
 use mathlib.Core.List.{List, [], _∷_}
@@ -23,7 +23,7 @@ use Rattle.dyck_words.specs.Trees.{dyckBefore}
 use Rattle.dyck_words.specs.Listing.{dyckWords}
 use Rattle.families.specs.declared.Family.{Family}
 
--- everything lent beside a family, a field a list: "a lent list of letter counts, one byte a letter, filled only for kind 2"
+-- everything lent beside a family, a field a list: "a lent list of letter counts, one byte a letter, filled only for kind 2" (SCOPE 1.a)
 pub record Lent : Type 0 where
   pub counts : List ℕ
 
@@ -39,11 +39,11 @@ onlyCounts counts = lent (counts ∷ [])
 abbrev pub plainFamily : ℕ → ℕ → ℕ → Family
 plainFamily kind n k = record { kind = kind; n = n; k = k }
 
--- "empty for other kinds"
+-- "empty for other kinds" (SCOPE 4.3)
 unfoldable pub noCounts : Lent → Bool
 noCounts b = eqb (length (b .counts)) 0
 
--- 1 sites used: "n, k 0 to 80", "k site numbers from 1 to n, strictly ascending"; "no object when k > n"
+-- 1 sites used: "n, k 0 to 80", "k site numbers from 1 to n, strictly ascending" (SCOPE 1.1); "no object when k > n" (SCOPE 1.b)
 unfoldable pub subsetRow : Family → Lent → Row
 subsetRow f b = record {
   inBounds = leb (f .n) places && leb (f .k) places;
@@ -56,7 +56,8 @@ subsetRow f b = record {
   hasObject = leb (f .k) (f .n);
 }
 
--- 2 hanging: "n letters, 0 to 80; k is 0", "word with letter i exactly as often as count i says"; "the count list n long .. with a sum of at most 80"
+-- 2 hanging: "n letters, 0 to 80; k is 0", "word with letter i exactly as often as count i says" (SCOPE 1.2); "the count list n long .. with a sum of
+-- at most 80" (SCOPE 4.3)
 unfoldable pub anagramRow : Family → Lent → Row
 anagramRow f b = record {
   inBounds = leb (f .n) places && eqb (f .k) 0;
@@ -69,7 +70,7 @@ anagramRow f b = record {
   hasObject = true;
 }
 
--- 3 pouring order: "n 0 to 80; k is 0", "each of 1 to n"
+-- 3 pouring order: "n 0 to 80; k is 0", "each of 1 to n" (SCOPE 1.3)
 unfoldable pub permutationRow : Family → Lent → Row
 permutationRow f b = record {
   inBounds = leb (f .n) places && eqb (f .k) 0;
@@ -82,7 +83,7 @@ permutationRow f b = record {
   hasObject = true;
 }
 
--- 4 flask sharing: "n, k 0 to 80", "byte i is the block of model i"; "no object when k > n", "none when k = 0 < n"
+-- 4 flask sharing: "n, k 0 to 80", "byte i is the block of model i" (SCOPE 1.4); "no object when k > n", "none when k = 0 < n" (SCOPE 1.b)
 unfoldable pub setPartitionRow : Family → Lent → Row
 setPartitionRow f b = record {
   inBounds = leb (f .n) places && leb (f .k) places;
@@ -95,7 +96,8 @@ setPartitionRow f b = record {
   hasObject = leb (f .k) (f .n) && (ltb 0 (f .k) || eqb (f .n) 0);
 }
 
--- 5 batch split: "n, k 0 to 80", "k parts, each at least 1, weakly descending, sum n"; "no object when k > n", "none when k = 0 < n"
+-- 5 batch split: "n, k 0 to 80", "k parts, each at least 1, weakly descending, sum n" (SCOPE 1.5); "no object when k > n", "none when k = 0 < n"
+-- (SCOPE 1.b)
 unfoldable pub integerPartitionRow : Family → Lent → Row
 integerPartitionRow f b = record {
   inBounds = leb (f .n) places && leb (f .k) places;
@@ -108,7 +110,7 @@ integerPartitionRow f b = record {
   hasObject = leb (f .k) (f .n) && (ltb 0 (f .k) || eqb (f .n) 0);
 }
 
--- 6 branch plan: "n branches, 0 to 40; k is 0", "2n bytes 1 .. and 0 .., as many of each, no prefix with more 0 than 1"
+-- 6 branch plan: "n branches, 0 to 40; k is 0", "2n bytes 1 .. and 0 .., as many of each, no prefix with more 0 than 1" (SCOPE 1.6)
 unfoldable pub dyckWordRow : Family → Lent → Row
 dyckWordRow f b = record {
   inBounds = leb (f .n) branches && eqb (f .k) 0;
@@ -121,7 +123,7 @@ dyckWordRow f b = record {
   hasObject = true;
 }
 
--- a number that is no kind
+-- a number that is no kind, which question 1 refuses (SCOPE 4.1)
 unfoldable pub noRow : Lent → Row
 noRow b = record {
   inBounds = false;
@@ -134,7 +136,7 @@ noRow b = record {
   hasObject = false;
 }
 
--- the table: each kind's row stands at its number, from 1 on
+-- the table: each kind's row stands at its number, from 1 on (SCOPE 1.1 to 1.6)
 unfoldable pub table : Family → Lent → List Row
 table f b =
     noRow b
@@ -146,6 +148,6 @@ table f b =
     ∷ dyckWordRow f b
     ∷ []
 
--- the last kind of the table
+-- the last kind of the table (SCOPE 4.1)
 abbrev pub lastKind : ℕ
 lastKind = 6
