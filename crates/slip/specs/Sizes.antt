@@ -1,18 +1,18 @@
--- How many objects are listed at most, and how long the lines, the longest slip and the longest text are.
+-- How many objects are listed at most, and how long the lines, the longest slip and the longest text are (SCOPE 7).
 -- Assumes nothing.
 use Prim.Native.Nat.{ℕ, _+_, _*_}
 use Rattle.numbers.specs.Limits.{longestObject}
 use Rattle.columns.specs.Fields.{fieldWidth, largestField}
 
--- "the count in 20", "rank in 20 columns", "the line END, right-justified in 20 columns"
+-- "the count in 20", "rank in 20 columns", "the line END, right-justified in 20 columns" (SCOPE 7.4)
 abbrev pub countWidth : ℕ
 countWidth = 20
 
--- a line of m fields, and its newline
+-- a line of m fields, and its newline (SCOPE 7.2)
 abbrev pub lineWidth : ℕ → ℕ
 lineWidth m = fieldWidth * m + 1
 
--- "a second line of n counts", where n is a field itself
+-- "a second line of n counts", where n is a field itself (SCOPE 7.2)
 abbrev pub mostCounts : ℕ
 mostCounts = largestField
 
@@ -20,25 +20,27 @@ mostCounts = largestField
 abbrev pub longestSlip : ℕ
 longestSlip = lineWidth 3 + lineWidth mostCounts
 
--- "1,000 are listed"
+-- "1,000 are listed" (SCOPE 7.5)
 abbrev pub listedAtMost : ℕ
 listedAtMost = 1000
 
--- "kind, n, k in 4 columns each and the count in 20"
+-- "kind, n, k in 4 columns each" (SCOPE 7.4)
 abbrev pub familyWidth : ℕ
 familyWidth = fieldWidth * 3
 
+-- "kind, n, k in 4 columns each and the count in 20", and the newline (SCOPE 7.4)
 abbrev pub firstLineWidth : ℕ
 firstLineWidth = familyWidth + (countWidth + 1)
 
--- "rank in 20 columns, each byte in 4", for an object of so many bytes
+-- "rank in 20 columns, each byte in 4", for an object of so many bytes, and the newline (SCOPE 7.4)
 abbrev pub objectLineWidth : ℕ → ℕ
 objectLineWidth m = countWidth + (fieldWidth * m + 1)
 
+-- "the line END", or MORE, and the newline (SCOPE 7.4, 7.5)
 abbrev pub lastLineWidth : ℕ
 lastLineWidth = countWidth + 1
 
--- "REFUSED and the number in 4 columns"
+-- "REFUSED and the number in 4 columns", and the newline (SCOPE 7.7)
 abbrev pub refusedWidth : ℕ
 refusedWidth = 7 + (fieldWidth + 1)
 
