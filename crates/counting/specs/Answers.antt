@@ -1,4 +1,4 @@
--- What a count's answer says: exactly a number below 2^64, or "too large", or that paper 01 doesn't speak of the arguments.
+-- What a count's answer says: exactly a number below 2^64 (SCOPE 6), or that it is too large, or that paper 01 doesn't speak of the arguments.
 -- Assumes nothing.
 use Prim.Native.Nat.{ℕ, _^_}
 use mathlib.Core.Bool.{Bool, cond}
@@ -6,7 +6,7 @@ use lib.Dec.{ltb}
 use Rattle.counting.specs.declared.Count.{Count}
 use Rattle.counting.specs.declared.Count.the-variants.{Exactly, TooLarge, Outside}
 
--- question 5, "is the count below 2^64?": the count itself, or too large
+-- question 5, "is the count below 2^64?" (SCOPE 4.5): the count itself, or too large
 unfoldable pub fits : ℕ → Count
 fits v = cond (ltb v (2 ^ 64)) (Exactly v) TooLarge
 

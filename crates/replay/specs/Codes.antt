@@ -1,4 +1,4 @@
--- Calls as numbers, for lists of them in lent buffers.
+-- Calls as numbers, for lists of them in lent buffers (SCOPE 0.3).
 -- Assumes nothing.
 use mathlib.Core.Bool.{Bool, true, _&&_}
 use mathlib.Core.List.{List, [], _∷_}

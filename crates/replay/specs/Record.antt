@@ -1,4 +1,4 @@
--- What a replay leaves in its buffers: the marker's run.
+-- What a replay leaves in its buffers: the marker's run (SCOPE 0.3, 5).
 -- Assumes nothing.
 use mathlib.Core.Bool.{Bool, cond, _&&_}
 use mathlib.Core.List.{List, map, flatMap}
@@ -22,6 +22,7 @@ pub record Buffers : Type 0 where
   pub answers : List ℕ
   pub trail : Bytes
 
+-- these three as buffers
 abbrev pub buffers : Bytes → List ℕ → Bytes → Buffers
 buffers object answers trail = record { object = object; answers = answers; trail = trail }
 
@@ -30,9 +31,11 @@ unfoldable pub buffersFit : List ℕ → List ℕ → Buffers → Bool
 buffersFit calls ranks b =
     known calls && eqb (length ranks) (length calls) && eqb (length (b .answers)) (length calls) && eqb (length (b .trail)) (length calls * length (b .object))
 
+-- the code of every answer
 unfoldable pub codesOf : List Said → List ℕ
 codesOf run = map (λ s. codeOf (s .0)) run
 
+-- the bytes after every call, one after the other
 unfoldable pub trailOf : List Said → Bytes
 trailOf run = flatMap (λ s. s .1) run
 
@@ -44,7 +47,7 @@ kept x run = buffers (finally x run) (codesOf run) (trailOf run)
 abbrev pub Outcome : Type 0
 Outcome = Replayed × Buffers
 
--- where the buffers fit, they keep the marker's run; else nothing is changed
+-- where the buffers fit, they keep the marker's run (SCOPE 0.3); else nothing is changed
 unfoldable pub outcome : List ℕ → List ℕ → Family → Lent → Buffers → Outcome
 outcome calls ranks f lists b =
     cond (buffersFit calls ranks b) (Ran, kept (b .object) (marker (callsOf calls ranks) f lists (b .object))) (Misfit, b)

@@ -1,4 +1,4 @@
--- What `render` promises: the program's whole text, in a buffer that is long enough for every slip.
+-- What `render` promises: the program's whole text (SCOPE 7), in a buffer that is long enough for every slip.
 -- Assumes nothing.
 use mathlib.Core.Path.{_≡_}
 use Prim.Native.Nat.{_≤_, _<_}
