@@ -1,4 +1,4 @@
-// The answers about the counts of paper 01's families: each count exact, or "too large". They answer any arguments: those outside the limits of the
+// The answers about the counts of paper 01's families: each exact, or too large. They answer any arguments: those outside the limits of the
 // paper's table by a case of their own. `catalan_that_fits`, for ranks, answers a plain number, and 0 where it doesn't fit.
 ghost use mathlib.Core.Path.{_≡_};
 ghost use mathlib.Core.Bool.{_&&_};

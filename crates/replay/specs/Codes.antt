@@ -12,7 +12,7 @@ use Rattle.listings.specs.Calls.{Call, FIRST, LAST, NEXT, PREVIOUS, UNRANK}
 unfoldable pub callOf : ℕ → ℕ → Call
 callOf code r = getD (FIRST ∷ FIRST ∷ LAST ∷ NEXT ∷ PREVIOUS ∷ UNRANK r ∷ []) code FIRST
 
--- "the calls with their arguments": a code, and the rank beside it. Where `outcome` looks at them the two lists are equally long.
+-- "the calls with their arguments" (SCOPE 5.2): a code, and the rank beside it. Where `outcome` looks at them the two lists are equally long.
 unfoldable pub callsOf : List ℕ → List ℕ → List Call
 callsOf [] rs = []
 callsOf (c ∷ cs) [] = []
