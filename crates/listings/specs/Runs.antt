@@ -7,8 +7,8 @@ use Rattle.numbers.specs.Sums.{range}
 use Rattle.listings.specs.Bytes.{Bytes}
 use Rattle.listings.specs.Calls.{Call, UNRANK, Answer, REFUSED, COUNTED, RANKED, MEASURED, WRITTEN, STEPPED, END, Said}
 
--- END ends a walk; every other answer is followed by its bytes (SCOPE 5.8). No theorem has COUNT or RANK in a run, and no call answers MEASURED: those
--- three cases are there to be total
+-- END ends a walk; every other answer is followed by its bytes (SCOPE 5.8). No theorem asks END of a run with COUNT or RANK in it, and no call answers
+-- MEASURED: those three cases are there to be total
 unfoldable pub heard : Answer → Bytes → Option (List Bytes) → Option (List Bytes)
 heard END x later = some []
 heard (REFUSED q) x later = Option·map (λ l. x ∷ l) later
