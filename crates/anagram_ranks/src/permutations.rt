@@ -63,7 +63,6 @@ fn raise(part: &mut [u8], a: u8)
 // is a digit of the rank in factorials.
 pub fn unrank(rank: u64, object: &mut [u8])
     requires { ⌜ length (now object) ≤ places ⌝ }
-    requires { ⌜ factorialOf (length (now object)) < 2 ^ 64 ⌝ }
     requires { ⌜ rank < factorialOf (length (now object)) ⌝ }
     ensures { λ _. ⌜ At (permutations (length (now (object .entry)))) (now (object .exit)) rank ⌝ }
 {

@@ -46,7 +46,7 @@ total-take-le b (a ∷ x) (suc i) most = omega (arith, most 0 (omega arith), tot
 
 -- floors
 
-pub from-floor : (f : ℕ) (x : Bytes) → descends f x ≡ true → f ≤ getD x 0 f
+from-floor : (f : ℕ) (x : Bytes) → descends f x ≡ true → f ≤ getD x 0 f
 from-floor f [] down = omega arith
 from-floor f (a ∷ x) down = let (low, rest) = descends-cons f a x down in omega (arith, from-floor f x rest)
 

@@ -52,7 +52,6 @@ pub fn is_object(floor: u64, n: u64, k: u64, object: &[u8]) -> bool
 pub fn first(floor: u64, n: u64, object: &mut [u8])
     requires { ⌜ (n ≤ places) × (length (now object) * floor ≤ n) ⌝ }
     requires { ⌜ (length (now object) ≡ 0 → n ≡ 0) ⌝ }
-    requires { ⌜ 0 < floor ⌝ }
     ensures { λ _. ⌜ First (integerPartitions floor n (length (now (object .entry)))) (now (object .exit)) ⌝ }
 {
     let k = object.len();
@@ -67,7 +66,6 @@ pub fn first(floor: u64, n: u64, object: &mut [u8])
 pub fn last(floor: u64, n: u64, object: &mut [u8])
     requires { ⌜ (n ≤ places) × (length (now object) * floor ≤ n) ⌝ }
     requires { ⌜ (length (now object) ≡ 0 → n ≡ 0) ⌝ }
-    requires { ⌜ 0 < floor ⌝ }
     ensures { λ _. ⌜ Last (integerPartitions floor n (length (now (object .entry)))) (now (object .exit)) ⌝ }
 {
     let k = object.len() as u64;
@@ -99,7 +97,7 @@ pub fn next(floor: u64, n: u64, object: &mut [u8]) -> Step
 
 // The first part behind the first that can go down by one does, and the parts in front of it become as equal as can be.
 pub fn previous(floor: u64, n: u64, object: &mut [u8]) -> Step
-    requires { ⌜ (n ≤ places) × (0 < floor) ⌝ }
+    requires { ⌜ n ≤ places ⌝ }
     requires { ⌜ isIntegerPartition floor n (length (now object)) (now object) ≡ true ⌝ }
     ensures { λ r. ⌜ _≡_ {A = Said} (stepAs r, now (object .exit)) (act PREVIOUS integerPartitionBefore (integerPartitions floor n (length (now (object .entry)))) (now (object .entry))) ⌝ }
 {

@@ -98,7 +98,7 @@ pub fn previous(n: u64, object: &mut [u8]) -> Step
 // How many come before the first k numbers, by a call to itself for each: those without the last of them, and then as many as before the others, below
 // it. The numbers are lent as an array: where calls hand a slice on, the compiler makes no loop of them.
 fn rank_of(n: u64, numbers: &[u8; LONGEST_OBJECT], k: usize) -> u64
-    requires { ⌜ (n ≤ places) × (k ≤ places) ⌝ }
+    requires { ⌜ n ≤ places ⌝ }
     requires { ⌜ isSubset n k (take k (now numbers)) ≡ true ⌝ }
     requires { ⌜ choose n k < 2 ^ 64 ⌝ }
     ensures { λ r. ⌜ r ≡ countBefore subsetBefore (take k (now (numbers .entry))) (subsets n k) ⌝ }

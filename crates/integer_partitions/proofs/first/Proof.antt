@@ -11,7 +11,7 @@ use Rattle.integer_partitions.proofs.first.Statement.{statement}
 use Rattle.integer_partitions.proofs.first.Tie as tie
 
 returns : tie.Need-returns
-returns c = let a = c .before .before .args in first-none (a .floor) (a .n) (a .object .now) (c .if1 .taken) (c .before .before .pre .1 .0 (c .if1 .taken))
+returns c = let a = c .before .before .args in first-none (a .floor) (a .n) (a .object .now) (c .if1 .taken) (c .before .before .pre .1 (c .if1 .taken))
 
 cast-fill-with : tie.Need-cast-fill-with
 cast-fill-with c =

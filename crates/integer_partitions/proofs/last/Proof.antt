@@ -13,7 +13,7 @@ use Rattle.integer_partitions.proofs.last.Statement.{statement}
 use Rattle.integer_partitions.proofs.last.Tie as tie
 
 returns : tie.Need-returns
-returns c = let a = c .before .before .args in last-none (a .floor) (a .n) (a .object .now) (c .if1 .taken) (c .before .before .pre .1 .0 (c .if1 .taken))
+returns c = let a = c .before .before .args in last-none (a .floor) (a .n) (a .object .now) (c .if1 .taken) (c .before .before .pre .1 (c .if1 .taken))
 
 rem-more : tie.Need-rem-more
 rem-more c = search needs

@@ -74,7 +74,7 @@ first-requires c κs =
     let up : c .before .wide .result ≡ suc (getD x i 0) = omega (arith, c .before .wide .ensures) in
     let found : i * suc (getD x i 0) < total (take i x) = c .before .before .before .before .before .before .part-to-raise .ensures .1 .1 (inside (c .before .before .before .before .before)) in
     let room : length (take i x) * c .before .wide .result ≡ i * suc (getD x i 0) = ap₂ _*_ size up in
-    (omega (arith, c .before .before .before .before .before .before .before .before .before .pre .0, c .before .before .sum .ensures, here (c .before .before .before .before .before) .sum), (λ z. omega (arith, c .before .before .sum .ensures, total-empty (take i x) z), omega arith))
+    (omega (arith, c .before .before .before .before .before .before .before .before .before .pre .0, c .before .before .sum .ensures, here (c .before .before .before .before .before) .sum), λ z. omega (arith, c .before .before .sum .ensures, total-empty (take i x) z))
 
 slice-write-object : tie.Need-slice-write-object
 slice-write-object c = search needs

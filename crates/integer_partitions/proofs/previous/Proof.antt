@@ -4,7 +4,7 @@ use mathlib.Core.Path.{_≡_, sym}
 use Prim.Native.Nat.{ℕ, suc, _≤_, _<_}
 use native.Mathlib.Nat.{mul-le-mul-left}
 use native.Mathlib.Omega.{arith}
-use lib.ListN.{length, getD, take, drop}
+use lib.ListN.{length, getD, take}
 use lib.Seq.{length-take-le}
 use borrow.Author.Needs.{needs}
 use Rattle.numbers.specs.Sums.{total}
@@ -12,7 +12,7 @@ use Rattle.listings.specs.Bytes.{Bytes}
 use Rattle.listings.proofs.Stepping.{previous-steps, previous-ends}
 use Rattle.integer_partitions.proofs.Facts.{partition-cases}
 use Rattle.integer_partitions.proofs.Theorem.{lists}
-use Rattle.integer_partitions.proofs.Parts.{from-floor, floor-total, head-drop}
+use Rattle.integer_partitions.proofs.Parts.{floor-total}
 use Rattle.integer_partitions.proofs.Extremes.{level-first}
 use Rattle.integer_partitions.proofs.Moves.{Cut, cut, lowers}
 use Rattle.integer_partitions.proofs.previous.Statement.{statement}
@@ -71,7 +71,6 @@ slice-aggregate-last c = sym (length-take-le (c .before .before .before .before 
 
 last-requires : tie.Need-last-requires
 last-requires c κs =
-    let f : ℕ = c .before .before .before .before .before .before .before .before .before .args .floor in
     let i : ℕ = c .before .before .before .before .before .before .part-to-lower .result in
     let x : Bytes = c .before .before .before .before .before .before .before .before .before .args .object .now in
     let p : ℕ = getD x i 0 in
@@ -79,7 +78,7 @@ last-requires c κs =
     let less : c .before .wide .result ≤ p = omega (arith, c .before .wide .ensures) in
     let front = partition-cases p (total (take i x)) i (take i x) (here (c .before .before .before .before .before) .front) in (
       omega (arith, c .before .before .before .before .before .before .before .before .before .pre .0, c .before .before .sum .ensures, here (c .before .before .before .before .before) .sum, found (c .before .before .before .before .before), floor-total p (take i x) (front .down), mul-le-mul-left (length (take i x)) less),
-      (λ z. absurd (omega (arith, found (c .before .before .before .before .before))), omega (arith, c .before .before .before .before .before .before .before .before .before .pre .0, c .before .wide .ensures, found (c .before .before .before .before .before), from-floor f (drop (suc i) x) (here (c .before .before .before .before .before) .down), head-drop x (suc i) f)),
+      λ z. absurd (omega (arith, found (c .before .before .before .before .before))),
     )
 
 slice-write-object : tie.Need-slice-write-object

@@ -76,7 +76,7 @@ first-requires c κs =
     let l = c .before .before .loop in
     let u = l .inv in
     let fit = fits-first (l .least) (l .left) (l .k) (omega arith) in
-    rw (length-take-le (l .k) (l .object) (omega arith)) ((omega (arith, c .before .before .before .before .pre), fit .room), (fit .none, u .floor))
+    rw (length-take-le (l .k) (l .object) (omega arith)) ((omega (arith, c .before .before .before .before .pre), fit .room), fit .none)
 
 same-length : tie.Need-same-length Inv-loop μ-loop
 same-length c =

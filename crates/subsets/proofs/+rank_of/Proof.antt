@@ -4,6 +4,8 @@ use Prim.Native.Nat.{ℕ, _-_, _<_}
 use native.Mathlib.Omega.{arith}
 use borrow.Fn.Kinds.{In}
 use borrow.Fn.PlainCycle.{Measures, is, falls, and}
+use lib.ListN.{take}
+use Rattle.subsets.proofs.Facts.{subset-few}
 use Rattle.subsets.proofs.Ranking.{below-count, rank-of-none, Parted, parted}
 use Rattle.subsets.proofs.rank_of.Reads as rank-of
 use Rattle.subsets.proofs.rank_of.Kinds as rank-of-kinds
@@ -50,7 +52,7 @@ rank-of-element-copy-out-wide : (t : ℕ) → rank-of-lts.Need-element-copy-out-
   rank-of-below t,
   rank-of.Post,
 ) (rank-of-at t) rank-of.Post
-rank-of-element-copy-out-wide t c = omega arith
+rank-of-element-copy-out-wide t c = let a = c .before .args in omega (arith, subset-few (a .n) (a .k) (take (a .k) (a .numbers .now)) (c .before .pre .1 .1 .0))
 
 rank-of-wide-requires : (t : ℕ) → rank-of-lts.Need-wide-requires (
   wide-reads.Asked,
@@ -101,7 +103,7 @@ rank-of-rank-of-requires : (t : ℕ) → rank-of-lts.Need-rank-of-requires (
   rank-of-below t,
   rank-of.Post,
 ) (rank-of-at t) rank-of.Post
-rank-of-rank-of-requires t c κs = let p = parts t (c .before) in (omega arith, ((omega (arith, p .high), omega arith), (p .front, omega (arith, p .fewer-front))))
+rank-of-rank-of-requires t c κs = let p = parts t (c .before) in (omega arith, (omega (arith, p .high), (p .front, omega (arith, p .fewer-front))))
 
 rank-of-add-result : (t : ℕ) → rank-of-lts.Need-add-result (
   wide-reads.Asked,

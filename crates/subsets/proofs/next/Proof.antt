@@ -11,7 +11,7 @@ use Rattle.numbers.specs.Sums.{range}
 use Rattle.listings.specs.Calls.{STEPPED, Said}
 use Rattle.listings.proofs.Stepping.{next-steps, next-ends}
 use Rattle.subsets.proofs.Theorem.{lists}
-use Rattle.subsets.proofs.Lent.{front-long, same-long, refilled}
+use Rattle.subsets.proofs.Lent.{front-long, refilled}
 use Rattle.subsets.proofs.Moves.{few, small, none-to-raise, number-raised}
 use Rattle.subsets.proofs.next.Statement.{statement}
 use Rattle.subsets.proofs.next.Tie as tie

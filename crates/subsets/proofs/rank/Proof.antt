@@ -11,8 +11,7 @@ copied-requires c κs = let a = c .before .args in omega (arith, subset-few (a .
 
 rank-of-requires : tie.Need-rank-of-requires
 rank-of-requires c κs = let p = c .before .before .before .pre in
-    let a = c .before .before .before .args in
-    ((omega arith, omega (arith, subset-few (a .n) (length (a .object .now)) (a .object .now) (p .1 .0))), (rw (c .before .copied .ensures .1) (p .1 .0), p .1 .1))
+    (p .0, (rw (c .before .copied .ensures .1) (p .1 .0), p .1 .1))
 
 returns : tie.Need-returns
 returns c = rw (c .before .before .copied .ensures .1) at (c .rank-of .ensures)

@@ -75,7 +75,7 @@ same-length c = c .before .loop .inv .0
 returns : tie.Need-returns Inv-loop μ-loop
 returns c =
     let l = c .before .loop in
-    rw (l .inv .0) at (written-all (omega arith) (rw (l .inv .0) (c .before .before .before .pre .1 .1)) (l .inv .1))
+    rw (l .inv .0) at (written-all (omega arith) (rw (l .inv .0) (c .before .before .before .pre .1)) (l .inv .1))
 
 pub unrank-spec : {M : Type 1} → statement M
 unrank-spec =

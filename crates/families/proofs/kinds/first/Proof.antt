@@ -90,7 +90,7 @@ unfolding table integerPartitionRow
 first-requires-5 c κs =
     let t = long-k 5 _ _ (c .before .before .before .before .args .object .now) (c .before .match .keys5) (c .before .before .before .before .pre .0) (c .before .before .before .before .pre .1 .1) refl in
     let p = shared (c .before .before .before .before .args .f .n) (length (c .before .before .before .before .args .object .now)) (t .some (c .before .before .before .before .pre .1 .0)) in
-    ((n-within _ _ _ (t .bounds), omega (arith, p .0)), (p .1, omega arith))
+    ((n-within _ _ _ (t .bounds), omega (arith, p .0)), p .1)
 
 same-length-5 : tie.Need-same-length-5
 same-length-5 c = search needs

@@ -80,7 +80,7 @@ previous-requires-5 : tie.Need-previous-requires-5
 unfolding table integerPartitionRow
 previous-requires-5 c κs =
     let t = object-k 5 _ _ _ (c .before .match .keys5) (c .before .before .before .pre) refl in
-    ((n-within _ _ _ (t .bounds), omega arith), sym (t .objects _) ∙ c .before .before .before .pre)
+    (n-within _ _ _ (t .bounds), sym (t .objects _) ∙ c .before .before .before .pre)
 
 same-length-5 : tie.Need-same-length-5
 same-length-5 c = search needs

@@ -91,7 +91,7 @@ rank-requires-6 : tie.Need-rank-requires-6
 unfolding table dyckWordRow
 rank-requires-6 c κs =
     let t = object 6 _ _ _ (c .match .keys6) (c .before .before .before .pre .0) in
-    ((n-within _ _ _ (t .bounds), sym (t .objects _) ∙ c .before .before .before .pre .0), rw (t .counted) at (c .before .before .before .pre .1))
+    (sym (t .objects _) ∙ c .before .before .before .pre .0, rw (t .counted) at (c .before .before .before .pre .1))
 
 returns-6 : tie.Need-returns-6
 unfolding table dyckWordRow rankOf

@@ -55,7 +55,7 @@ unrank-requires-3 : tie.Need-unrank-requires-3
 unfolding table permutationRow
 unrank-requires-3 c κs =
     let t = long-n 3 _ _ (c .before .before .before .before .args .object .now) (c .before .match .keys3) (c .before .before .before .before .pre .0) (c .before .before .before .before .pre .1 .1 .0) refl in
-    (n-within _ _ _ (t .bounds), (rw (t .counted) at (c .before .before .before .before .pre .1 .0), rw (t .counted) at (c .before .before .before .before .pre .1 .1 .1)))
+    (n-within _ _ _ (t .bounds), rw (t .counted) at (c .before .before .before .before .pre .1 .1 .1))
 
 same-length-3 : tie.Need-same-length-3
 same-length-3 c = search needs
@@ -106,7 +106,7 @@ unrank-requires-6 : tie.Need-unrank-requires-6
 unfolding table dyckWordRow
 unrank-requires-6 c κs =
     let t = handed 6 _ _ (c .before .match .keys6) (c .before .before .before .before .pre .0) in
-    ((n-within _ _ _ (t .bounds), c .before .before .before .before .pre .1 .1 .0 ∙ t .long), (rw (t .counted) at (c .before .before .before .before .pre .1 .0), rw (t .counted) at (c .before .before .before .before .pre .1 .1 .1)))
+    (c .before .before .before .before .pre .1 .1 .0 ∙ t .long, (rw (t .counted) at (c .before .before .before .before .pre .1 .0), rw (t .counted) at (c .before .before .before .before .pre .1 .1 .1)))
 
 same-length-6 : tie.Need-same-length-6
 same-length-6 c = search needs
