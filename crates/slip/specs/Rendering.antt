@@ -12,5 +12,5 @@ use Rattle.slip.specs.Text.{output}
 pub record Renders (input before after : Bytes) (r : Rendered) : Type 0 where
   -- in a buffer that is long enough the text stands at its start
   pub whole : largest ≤ length before → (r ≡ Text (length (output input))) × (take (length (output input)) after ≡ output input)
-  -- a shorter buffer is said to be short, whatever the slip
-  pub short : length before < largest → r ≡ Short
+  -- a shorter buffer is said to be short, whatever the slip, and left as it was
+  pub short : length before < largest → (r ≡ Short) × (after ≡ before)

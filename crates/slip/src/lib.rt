@@ -14,7 +14,7 @@ pub use limits::LARGEST;
 pub use limits::LONGEST_SLIP;
 use limits::MOST_COUNTS;
 
-// The text is so many bytes at the start of the buffer; or the buffer is shorter than the longest text, and nothing is promised of it.
+// The text is so many bytes at the start of the buffer; or the buffer is shorter than the longest text, and left as it was.
 pub enum Rendered {
     Text(usize),
     Short,

@@ -11,7 +11,7 @@ use Rattle.slip.proofs.render.Statement.{statement}
 use Rattle.slip.proofs.render.Tie as tie
 
 returns : tie.Need-returns
-returns c = record { whole = λ h. absurd (omega arith); short = λ h. refl }
+returns c = record { whole = λ h. absurd (omega arith); short = λ h. (refl, refl) }
 
 no-counts-requires : tie.Need-no-counts-requires
 no-counts-requires c κs = search needs
