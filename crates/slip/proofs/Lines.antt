@@ -1,7 +1,7 @@
 -- The lines of a listing, one more at a time, to END or MORE, for any number of lines at most.
 -- Assumes nothing.
-use mathlib.Core.Path.{_≡_, sym, ap, subst}
-use mathlib.Core.Option.{Option·some-injective, Option·none-ne-some}
+use mathlib.Core.Path.{_≡_, ap, subst}
+use mathlib.Core.Option.{Option, none, some, Option·some-injective, Option·none-ne-some}
 use mathlib.Core.Bool.{cond}
 use mathlib.Core.List.{List, [], _∷_, _++_, flatMap, append-assoc, append-nil}
 use Prim.Native.Nat.{ℕ, zero, suc, _+_, _≤_, _<_}
@@ -14,13 +14,14 @@ use lib.Seq.{take-all}
 use borrow.Author.Tests.{lt-ltb, le-ltb}
 use Rattle.listings.specs.Bytes.{Bytes}
 use Rattle.listings.specs.Places.{At}
-use Rattle.listings.specs.Calls.{COUNT, Answer, Said}
+use Rattle.listings.specs.Calls.{COUNT, REFUSED, COUNTED, Said, judged, act}
 use Rattle.families.specs.declared.Family.{Family}
 use Rattle.families.specs.Table.{Lent}
-use Rattle.families.specs.Families.{listing}
+use Rattle.families.specs.Families.{isObject, listing, countOf}
+use Rattle.families.specs.Questions.{refusal}
 use Rattle.families.specs.Calls.{respond}
-use Rattle.columns.specs.Columns.{newline}
-use Rattle.slip.specs.Sizes.{listedAtMost}
+use Rattle.columns.specs.Columns.{newline, column}
+use Rattle.slip.specs.Sizes.{countWidth, listedAtMost}
 use Rattle.slip.specs.Text.{wordEnd, wordMore, familyColumns, firstLine, objectLine, objectLines, lastLine, body, listedText, said, familyText}
 use Rattle.columns.specs.inner.Writing.{Wrote}
 use Rattle.columns.proofs.Writes.{then}
@@ -73,7 +74,22 @@ pub headed : (f : Family) (b : Lent) {count d e g p q : Bytes} {at c i j k : ℕ
 unfolding listedText firstLine
 headed f b u v w y = simp append-assoc (simp append-assoc at (then (then (then u v) w) y))
 
--- the text of a family by what COUNT answers
-pub text-is : (f : Family) (b : Lent) {a : Answer} → _≡_ {A = Said} (a, []) (respond COUNT f b []) → familyText f b ≡ said a f b
-unfolding familyText
-text-is f b e = ap (λ (s : Said). said (s .0) f b) (sym e)
+said-counted : (o : Option ℕ) (f : Family) (b : Lent) {n : ℕ} → _≡_ {A = Said} (COUNTED n, []) (judged o [] (COUNTED (countOf f b), [])) → said o f b ≡ listedText (column countWidth n) f b
+unfolding said judged
+said-counted none f b e = let a = ap (λ (s : Said). s .0) e in cc
+said-counted (some q) f b e = let a = ap (λ (s : Said). s .0) e in let z : _≡_ {A = ℕ} 0 1 = cc in absurd (omega arith)
+
+said-refused : (o : Option ℕ) (f : Family) (b : Lent) {q : ℕ} → _≡_ {A = Said} (REFUSED q, []) (judged o [] (COUNTED (countOf f b), [])) → said o f b ≡ said (some q) f b
+unfolding judged
+said-refused none f b e = let a = ap (λ (s : Said). s .0) e in let z : _≡_ {A = ℕ} 0 1 = cc in absurd (omega arith)
+said-refused (some p) f b e = let a = ap (λ (s : Said). s .0) e in cc
+
+-- the text of a family that COUNT counts
+pub text-counted : (f : Family) (b : Lent) {n : ℕ} → _≡_ {A = Said} (COUNTED n, []) (respond COUNT f b []) → familyText f b ≡ listedText (column countWidth n) f b
+unfolding familyText respond act countOf
+text-counted f b e = said-counted (refusal COUNT f b 0 (isObject f b [])) f b e
+
+-- and of one that it refuses
+pub text-refused : (f : Family) (b : Lent) {q : ℕ} → _≡_ {A = Said} (REFUSED q, []) (respond COUNT f b []) → familyText f b ≡ said (some q) f b
+unfolding familyText respond act countOf
+text-refused f b e = said-refused (refusal COUNT f b 0 (isObject f b [])) f b e

@@ -10,11 +10,11 @@ use lib.Dec.{ltb, eqb}
 use lib.ListN.{length, take, length-append, length-take}
 use Rattle.numbers.specs.Limits.{longestObject}
 use Rattle.listings.specs.Bytes.{Bytes}
-use Rattle.listings.specs.Calls.{COUNT, Answer, REFUSED, COUNTED, RANKED, MEASURED, WRITTEN, STEPPED, END}
+use Rattle.listings.specs.Calls.{COUNT}
 use Rattle.families.specs.declared.Family.{Family}
 use Rattle.families.specs.Table.{Lent}
-use Rattle.families.specs.Families.{listing}
-use Rattle.families.specs.Calls.{respond}
+use Rattle.families.specs.Families.{isObject, listing, countOf}
+use Rattle.families.specs.Questions.{refusal}
 use Rattle.families.proofs.FamilyFacts.{listed, lawful, object-allowed, short}
 use Rattle.slip.specs.declared.Rendered.{Rendered}
 use Rattle.slip.specs.declared.Rendered.the-variants.{Text}
@@ -82,20 +82,15 @@ unfolding justified
 uncounted-long true f b q = listed-long (justified countWidth wordMany) f b refl
 uncounted-long false f b q = omega (arith, refused-long q)
 
-said-long : (a : Answer) (f : Family) (b : Lent) → length (said a f b) ≤ largest
+said-long : (o : Option ℕ) (f : Family) (b : Lent) → length (said o f b) ≤ largest
 unfolding said
-said-long (COUNTED n) f b = listed-long (column countWidth n) f b (length-column countWidth n)
-said-long (REFUSED q) f b = uncounted-long (eqb q 5) f b q
-said-long (RANKED n) f b = omega arith
-said-long (MEASURED n) f b = omega arith
-said-long WRITTEN f b = omega arith
-said-long STEPPED f b = omega arith
-said-long END f b = omega arith
+said-long none f b = listed-long (column countWidth (countOf f b)) f b (length-column countWidth (countOf f b))
+said-long (some q) f b = uncounted-long (eqb q 5) f b q
 
 text-long : (s : Option Slip) → length (textOf s) ≤ largest
 unfolding textOf familyText
 text-long none = omega (arith, refused-long 9)
-text-long (some s) = said-long (respond COUNT (s .family) (lentBy s) [] .0) (s .family) (lentBy s)
+text-long (some s) = said-long (refusal COUNT (s .family) (lentBy s) 0 (isObject (s .family) (lentBy s) [])) (s .family) (lentBy s)
 
 -- the constant is right: it serves every slip
 pub output-fits : (x : Bytes) → length (output x) ≤ largest

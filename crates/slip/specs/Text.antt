@@ -7,11 +7,11 @@ use Prim.Native.Nat.{ℕ, suc}
 use lib.Dec.{ltb, eqb}
 use lib.ListN.{length, take}
 use Rattle.listings.specs.Bytes.{Bytes}
-use Rattle.listings.specs.Calls.{COUNT, Answer, REFUSED, COUNTED, RANKED, MEASURED, WRITTEN, STEPPED, END}
+use Rattle.listings.specs.Calls.{COUNT}
 use Rattle.families.specs.declared.Family.{Family}
 use Rattle.families.specs.Table.{Lent, onlyCounts}
-use Rattle.families.specs.Families.{listing}
-use Rattle.families.specs.Calls.{respond}
+use Rattle.families.specs.Families.{isObject, listing, countOf}
+use Rattle.families.specs.Questions.{refusal}
 use Rattle.columns.specs.Columns.{newline, column, justified}
 use Rattle.columns.specs.Fields.{fieldWidth}
 use Rattle.slip.specs.Grammar.{Slip, slipOf}
@@ -66,19 +66,14 @@ listedText count f b = firstLine f count ++ body (listing f b)
 unfoldable pub refusedText : ℕ → Bytes
 refusedText q = wordRefused ++ (column fieldWidth q ++ (newline ∷ []))
 
--- by what COUNT answers: the count, "the word MANY, right-justified, if refused by 5" (SCOPE 7.4), or another refusal (SCOPE 7.7)
-unfoldable pub said : Answer → Family → Lent → Bytes
-said (COUNTED n) f b = listedText (column countWidth n) f b
-said (REFUSED q) f b = cond (eqb q 5) (listedText (justified countWidth wordMany) f b) (refusedText q)
-said (RANKED n) f b = []
-said (MEASURED n) f b = []
-said WRITTEN f b = []
-said STEPPED f b = []
-said END f b = []
+-- by the number that refuses COUNT, if one does: the count, "the word MANY, right-justified, if refused by 5" (SCOPE 7.4), or another refusal (SCOPE 7.7)
+unfoldable pub said : Option ℕ → Family → Lent → Bytes
+said none f b = listedText (column countWidth (countOf f b)) f b
+said (some q) f b = cond (eqb q 5) (listedText (justified countWidth wordMany) f b) (refusedText q)
 
--- the text of a family and what is lent beside it (SCOPE 7.4)
+-- the text of a family and what is lent beside it, by COUNT's questions, which ask nothing of a buffer (SCOPE 7.4)
 unfoldable pub familyText : Family → Lent → Bytes
-familyText f b = said (respond COUNT f b [] .0) f b
+familyText f b = said (refusal COUNT f b 0 (isObject f b [])) f b
 
 -- what a slip lends beside its family
 abbrev pub lentBy : Slip → Lent

@@ -15,12 +15,12 @@ use families::Written;
 use numbers::LONGEST_OBJECT;
 ghost use mathlib.Core.Path.{_≡_};
 ghost use mathlib.Core.Bool.{true, cond};
+ghost use mathlib.Core.Option.{some};
 ghost use mathlib.Core.List.{map, flatMap};
 ghost use Prim.Native.Nat.{_+_, _*_, _≤_};
 ghost use lib.ListN.{length};
 ghost use Rattle.numbers.specs.Limits.{longestObject};
 ghost use Rattle.listings.specs.Places.{First};
-ghost use Rattle.listings.specs.Calls.{REFUSED};
 ghost use Rattle.families.specs.Table.{lent};
 ghost use Rattle.families.specs.Families.{allowed, objectLength, listing};
 ghost use Rattle.columns.specs.Columns.{column};
@@ -164,7 +164,7 @@ fn put_counted<'a>(out: &mut [u8], n: u64, f: Family, lists: Lists<'a>) -> usize
 fn put_uncounted<'a>(out: &mut [u8], q: u64, f: Family, lists: Lists<'a>) -> usize
     requires { ⌜ largest ≤ length (now out) ⌝ }
     requires { ⌜ (q ≡ 5 → allowed f (lent (map now lists)) ≡ true) ⌝ }
-    ensures { λ r. ⌜ Wrote (now (out .entry)) 0 (now (out .exit)) r (said (REFUSED q) f (lent (map now (lists .entry)))) ⌝ }
+    ensures { λ r. ⌜ Wrote (now (out .entry)) 0 (now (out .exit)) r (said (some q) f (lent (map now (lists .entry)))) ⌝ }
 {
     if q != 5 {
         return put_refused(out, 0, q);

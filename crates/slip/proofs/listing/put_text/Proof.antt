@@ -5,8 +5,7 @@ use denote.Ref.{now}
 use borrow.Author.Needs.{needs}
 use Rattle.families.specs.Table.{lent}
 use Rattle.families.proofs.Going.{counted-allowed, many-allowed}
-use Rattle.slip.specs.Text.{said}
-use Rattle.slip.proofs.Lines.{text-is}
+use Rattle.slip.proofs.Lines.{text-counted, text-refused}
 use Rattle.slip.proofs.listing.put_text.Statement.{statement}
 use Rattle.slip.proofs.listing.put_text.Tie as tie
 
@@ -36,15 +35,13 @@ same-length : tie.Need-same-length
 same-length c = search needs
 
 returns : tie.Need-returns
-unfolding said
-returns c = rw (text-is (c .before .before .before .before .before .before .before .before .before .args .f) (lent (map now (c .before .before .before .before .before .before .before .before .before .args .lists))) (rw (c .before .before .before .before .before .n .given .1) at (c .before .before .before .before .before .before .before .count .ensures))) (c .before .before .put-counted .ensures)
+returns c = rw (text-counted (c .before .before .before .before .before .before .before .before .before .args .f) (lent (map now (c .before .before .before .before .before .before .before .before .before .args .lists))) (rw (c .before .before .before .before .before .n .given .1) at (c .before .before .before .before .before .before .before .count .ensures))) (c .before .before .put-counted .ensures)
 
 same-length-2 : tie.Need-same-length-2
 same-length-2 c = search needs
 
 returns-2 : tie.Need-returns-2
-unfolding said
-returns-2 c = rw (text-is (c .before .before .before .before .before .before .before .before .before .args .f) (lent (map now (c .before .before .before .before .before .before .before .before .before .args .lists))) (rw (c .before .before .before .before .before .q .given .1) at (c .before .before .before .before .before .before .before .count .ensures))) (c .before .before .put-uncounted .ensures)
+returns-2 c = rw (text-refused (c .before .before .before .before .before .before .before .before .before .args .f) (lent (map now (c .before .before .before .before .before .before .before .before .before .args .lists))) (rw (c .before .before .before .before .before .q .given .1) at (c .before .before .before .before .before .before .before .count .ensures))) (c .before .before .put-uncounted .ensures)
 
 pub put-text-spec : {M : Type 1} → statement M
 put-text-spec =
