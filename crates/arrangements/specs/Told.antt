@@ -18,6 +18,6 @@ told s = (plain (codeOf (s .0)), s .1)
 abbrev pub Valued : Type 0
 Valued = ℕ × ℕ
 
--- what is told of a call that leaves a number where v stood
+-- what is told of a call that leaves a number where v stood. None of these answers 20 or 21, so its code is told as it is
 abbrev pub valued : Answer → ℕ → Valued
 valued a v = (plain (codeOf a), valueOf a v)
