@@ -34,6 +34,10 @@ module _ (cs : List ℕ) (x : Bytes) (i : ℕ) (inside : i < length x) where
   pub letter-spent : 0 < getD x i 0 → 0 < getD cs letter 0 → isAnagram cs (drop i x) ≡ isAnagram (oneLess cs letter) (drop (i + 1) x)
   letter-spent some left = rw (add-one, drop-cons x i 0 inside) (without-first cs letter (getD x i 0) (drop (suc i) x) (omega arith) left)
 
+  -- the same with what is stored
+  pub letter-stored : 0 < getD x i 0 → 0 < getD cs letter 0 → isAnagram cs (drop i x) ≡ isAnagram (set cs letter (getD cs letter 0 - 1)) (drop (i + 1) x)
+  letter-stored some left = rw one-less-set (letter-spent some left)
+
   pub letter-there : isAnagram cs (drop i x) ≡ true → (0 < getD x i 0) × (0 < getD cs letter 0)
   letter-there o =
       let (j, e, h, _) = first-off cs (getD x i 0) (drop (suc i) x) (rw (drop-cons x i 0 inside) at o) in

@@ -3,8 +3,10 @@
 use mathlib.Core.Path.{_≡_, refl}
 use mathlib.Core.Bool.{true}
 use mathlib.Core.List.{[], _∷_}
+use Rattle.listings.specs.Orders.{lexBefore}
 use Rattle.dyck_words.specs.Trees.{size, sameTree, treeBefore, join, openRows, parse, dyckBefore}
 
-pub not-by-dictionary : dyckBefore (1 ∷ 1 ∷ 1 ∷ 0 ∷ 0 ∷ 0 ∷ 1 ∷ 0 ∷ []) (1 ∷ 1 ∷ 0 ∷ 1 ∷ 0 ∷ 1 ∷ 0 ∷ 0 ∷ []) ≡ true
-unfolding size sameTree treeBefore join openRows parse dyckBefore
-not-by-dictionary = refl
+pub not-by-dictionary :
+    (lexBefore (1 ∷ 1 ∷ 0 ∷ 1 ∷ 0 ∷ 1 ∷ 0 ∷ 0 ∷ []) (1 ∷ 1 ∷ 1 ∷ 0 ∷ 0 ∷ 0 ∷ 1 ∷ 0 ∷ []) ≡ true) × (dyckBefore (1 ∷ 1 ∷ 1 ∷ 0 ∷ 0 ∷ 0 ∷ 1 ∷ 0 ∷ []) (1 ∷ 1 ∷ 0 ∷ 1 ∷ 0 ∷ 1 ∷ 0 ∷ 0 ∷ []) ≡ true)
+unfolding lexBefore size sameTree treeBefore join openRows parse dyckBefore
+not-by-dictionary = (refl, refl)

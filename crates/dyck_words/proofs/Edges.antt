@@ -26,9 +26,12 @@ alternates-from (suc n) a even =
 pub alternates : (n : ℕ) → map bit (range 0 (2 * n)) ≡ word (firstTree n)
 alternates n = alternates-from n 0 refl
 
+one-more : (n : ℕ) → replicate {A = ℕ} (suc n) 1 ++ replicate {A = ℕ} (suc n) 0 ≡ 1 ∷ ((replicate n 1 ++ replicate n 0) ++ (0 ∷ []))
+one-more n =
+    let more : replicate {A = ℕ} n 0 ++ (0 ∷ []) ≡ 0 ∷ replicate n 0 = replicate-append-replicate n 1 0 ∙ ap (λ k. replicate k 0) (add-one n) in
+    rw (append-assoc, more)
+
 pub nested : (n : ℕ) → replicate n 1 ++ replicate n 0 ≡ word (lastTree n)
 unfolding word lastTree
 nested zero = refl
-nested (suc n) =
-    let more : replicate {A = ℕ} n 0 ++ (0 ∷ []) ≡ 0 ∷ replicate n 0 = replicate-append-replicate n 1 0 ∙ ap (λ k. replicate k 0) (add-one n) in
-    rw (← nested n, append-assoc, more)
+nested (suc n) = one-more n ∙ ap (λ x. 1 ∷ (x ++ (0 ∷ []))) (nested n)

@@ -1,6 +1,6 @@
 -- The words of trees are the balanced words, a tree reads back from its word, and so the test of a Dyck word tells of a tree of n branches.
 -- Assumes nothing.
-use mathlib.Core.Path.{_≡_, refl, sym, _∙_, ap}
+use mathlib.Core.Path.{_≡_, refl, sym, _∙_, ap, ap₂}
 use mathlib.Core.Bool.{true, false≢true}
 use mathlib.Core.List.{List, [], _∷_, _++_, append-nil, append-assoc}
 use Prim.Native.Nat.{ℕ, zero, suc, _*_}
@@ -70,7 +70,7 @@ word-injective t u e = sym (parse-word t) ∙ ap parse e ∙ parse-word u
 
 pub word-order : (t u : Tree) → dyckBefore (word t) (word u) ≡ treeBefore t u
 unfolding dyckBefore
-word-order t u = rw (parse-word t, parse-word u)
+word-order t u = ap₂ treeBefore (parse-word t) (parse-word u)
 
 -- what the test tells, and what makes it pass
 

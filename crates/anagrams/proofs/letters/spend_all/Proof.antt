@@ -5,7 +5,7 @@ use Prim.Native.Nat.{_-_, _≤_}
 use native.Mathlib.Omega.{arith}
 use lib.ListN.{List·getD-eq-default, drop, length, length-set}
 use Rattle.anagrams.specs.Objects.{isAnagram}
-use Rattle.anagrams.proofs.Spending.{one-less-set, letter-spent, no-letter, all-spent}
+use Rattle.anagrams.proofs.Spending.{letter-stored, no-letter, all-spent}
 use Rattle.anagrams.proofs.letters.spend_all.Statement.{statement}
 use Rattle.anagrams.proofs.letters.spend_all.Tie as tie
 
@@ -65,7 +65,7 @@ loop-less c = omega arith
 
 loop-again : tie.Need-loop-again Inv-loop μ-loop
 loop-again c = let l = c .before .before .before .before .before .before .before .loop in
-    (omega arith, (simp length-set (l .inv .1 .0), rw one-less-set (l .inv .1 .1 ∙ letter-spent (l .left) (c .before .before .before .before .before .before .before .before .before .before .args .object .now) (l .i) (omega arith) (omega arith) (omega arith))))
+    (omega arith, (simp length-set (l .inv .1 .0), l .inv .1 .1 ∙ letter-stored (l .left) (c .before .before .before .before .before .before .before .before .before .before .args .object .now) (l .i) (omega arith) (omega arith) (omega arith)))
 
 none-left-requires : tie.Need-none-left-requires Inv-loop μ-loop
 none-left-requires c κs = tt
