@@ -1,6 +1,6 @@
 -- Where a partition with the last part p stands: behind those with a smaller last part, by the place of its other parts.
 -- Assumes nothing.
-use mathlib.Core.Path.{_≡_, sym, _∙_}
+use mathlib.Core.Path.{_≡_, sym, _∙_, ap}
 use mathlib.Core.Bool.{true}
 use mathlib.Core.List.{[], _∷_, _++_, flatMap}
 use Prim.Native.Nat.{ℕ, zero, suc, _+_, _-_, _≤_, _<_}
@@ -26,7 +26,7 @@ use Rattle.integer_partitions.proofs.Extremes.{first-none}
 -- first those that end with the floor, then those over a higher floor
 by-floor : (f n k : ℕ) → f ≤ n → integerPartitions f n (suc k) ≡ ending n k f ++ integerPartitions (suc f) n (suc k)
 unfolding integerPartitions flatMap range
-by-floor f n k h = let size : suc n - f ≡ suc (suc n - suc f) = omega arith in rw size
+by-floor f n k h = let size : suc n - f ≡ suc (suc n - suc f) = omega arith in ap (λ m. flatMap (ending n k) (range f m)) size
 
 length-ending : (n k p : ℕ) → length (ending n k p) ≡ partsFrom p (n - p) k
 length-ending n k p = length-map (integerPartitions p (n - p) k) (λ x. x ++ (p ∷ [])) ∙ counted p (n - p) k
