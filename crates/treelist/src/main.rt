@@ -94,6 +94,7 @@ fn main() {
         return;
     };
     let mut out = room_to_write();
+    // So much room serves every slip: the buffer is never short.
     let Rendered::Text(end) = slip::render(&input[..read], &mut out) else {
         return;
     };
