@@ -121,8 +121,5 @@ pub fn catalan(n: u64) -> Count
 pub fn catalan_that_fits(n: u64) -> u64
     ensures { λ r. ⌜ r ≡ ifFits (catalanOf n) ⌝ }
 {
-    if 36 < n {
-        return 0;
-    }
     short::catalan(n)
 }

@@ -2,6 +2,7 @@
 ghost use mathlib.Core.Path.{_≡_};
 ghost use Prim.Native.Nat.{_≤_};
 ghost use Rattle.numbers.specs.Numbers.{factorialOf, catalanOf};
+ghost use Rattle.counting.specs.Answers.{ifFits};
 
 // n!, up to the last below 2^64.
 pub fn factorial(n: u64) -> u64
@@ -34,10 +35,9 @@ pub fn factorial(n: u64) -> u64
     }
 }
 
-// The Catalan number of n, up to the last below 2^64.
+// The Catalan number of n, up to the last below 2^64, and 0 beyond it.
 pub fn catalan(n: u64) -> u64
-    requires { ⌜ n ≤ 36 ⌝ }
-    ensures { λ r. ⌜ r ≡ catalanOf n ⌝ }
+    ensures { λ r. ⌜ r ≡ ifFits (catalanOf n) ⌝ }
 {
     match n {
         0 => 1,

@@ -1,19 +1,25 @@
--- `counting::short::catalan` meets its contract: each arm has the Catalan number of its key, as it computes.
+-- `counting::short::catalan` meets its contract: each arm has the Catalan number of its key, as it computes, and from 37 on none is below 2^64.
 -- Assumes nothing.
 use mathlib.Core.Path.{_≡_, sym, ap}
-use Prim.Native.Nat.{ℕ}
+use Prim.Native.Nat.{ℕ, _<_}
 use native.Mathlib.Omega.{arith}
 use Rattle.numbers.specs.Sums.{range, sumOver}
 use Rattle.numbers.specs.Numbers.{catalanOf, catalansDown}
 use Rattle.numbers.proofs.Past.{beyond}
+use Rattle.numbers.proofs.Catalans.{catalan-large}
+use Rattle.counting.specs.Answers.{ifFits}
+use Rattle.counting.proofs.Answers.{if-large}
 use Rattle.counting.proofs.short.catalan.Statement.{statement}
 use Rattle.counting.proofs.short.catalan.Tie as tie
 
-at : {n i : ℕ} → n ≡ i → catalanOf i ≡ catalanOf n
-at e = ap catalanOf (sym e)
+at : {n i : ℕ} → n ≡ i → ifFits (catalanOf i) ≡ ifFits (catalanOf n)
+at e = ap (λ (m : ℕ). ifFits (catalanOf m)) (sym e)
+
+past : {n : ℕ} → 36 < n → 0 ≡ ifFits (catalanOf n)
+past h = sym (if-large (catalan-large h))
 
 pub catalan-spec : {M : Type 1} → statement M
-unfolding catalanOf catalansDown range sumOver
+unfolding ifFits catalanOf catalansDown range sumOver
 catalan-spec =
     tie.close
     (tie.spec
@@ -25,4 +31,4 @@ catalan-spec =
     (λ c. at (c .match .keys26)) (λ c. at (c .match .keys27)) (λ c. at (c .match .keys28)) (λ c. at (c .match .keys29)) (λ c. at (c .match .keys30))
     (λ c. at (c .match .keys31)) (λ c. at (c .match .keys32)) (λ c. at (c .match .keys33)) (λ c. at (c .match .keys34)) (λ c. at (c .match .keys35))
     (λ c. at (c .match .keys36)) (λ c. at (c .match .keys37))
-    (λ c. absurd (omega (arith, beyond 37 (c .before .args .n) (c .match .rest)))))
+    (λ c. past (beyond 37 (c .before .args .n) (c .match .rest))))
