@@ -21,7 +21,7 @@ use Rattle.families.specs.Questions.{opening, refusal}
 use Rattle.families.specs.Calls.{respond}
 use Rattle.families.proofs.Refusals.{Numbered, refusal-numbered}
 use Rattle.families.proofs.FamilyFacts.{listed, lawful, object-allowed, asked-allowed, rank-is-place}
-use Rattle.families.proofs.Verdicts.{first-passes, last-passes, next-passes, previous-passes, rank-passes, unrank-passes}
+use Rattle.families.proofs.Verdicts.{first-passes, last-passes, previous-passes, rank-passes, unrank-passes}
 use Rattle.families.proofs.Responses.{refused, acts, writes-ranked, count-said}
 use Rattle.families.proofs.Going.{object-here, opens, next-is}
 

@@ -3,7 +3,7 @@
 use mathlib.Core.Path.{_≡_, refl, sym, _∙_, ap}
 use mathlib.Core.Bool.{Bool, true, false}
 use mathlib.Core.Logic.{⊎-elim}
-use mathlib.Core.List.{List, [], _∷_, List·Memᴰ, List·Memᴰ·head, List·Memᴰ·tail}
+use mathlib.Core.List.{List, [], _∷_, List·Memᴰ·head, List·Memᴰ·tail}
 use Prim.Native.Nat.{ℕ, _<_}
 use native.Mathlib.Omega.{arith}
 use lib.Dec.{leb, eqb}
@@ -63,10 +63,6 @@ said-empty f b fits (dyck-words e n) = record { size = rw (e, n); has = rw e }
 
 -- of strings without a byte there is one
 
-none-long : (x : Bytes) → length x ≡ 0 → x ≡ []
-none-long [] e = refl
-none-long (a ∷ x) e = absurd (omega arith)
-
 alone : {object : Bytes → Bool} {lt : Bytes → Bytes → Bool} (l : List Bytes) → Listing object lt l → ((x : Bytes) → object x ≡ true → x ≡ []) → 0 < length l → l ≡ [] ∷ []
 alone [] lists empty h = absurd (omega arith)
 alone (x ∷ []) lists empty h = ap (λ (z : Bytes). z ∷ []) (empty x (lists .only x (List·Memᴰ·head refl)))
@@ -83,7 +79,7 @@ pub empty-alone : (f : Family) (b : Lent) → allowed f b ≡ true → EmptyAlon
 unfolding objectLength countOf listsFit
 empty-alone f b a e =
     let says = said-empty f b (fitting f b a) e in
-    alone (listing f b) (listed f b) (λ x o. none-long x (lawful f b .long x o ∙ says .size)) (ltb-true 0 (countOf f b) (has-object f b a ∙ says .has))
+    alone (listing f b) (listed f b) (λ x o. empty x (omega (arith, lawful f b .long x o ∙ says .size))) (ltb-true 0 (countOf f b) (has-object f b a ∙ says .has))
 
 -- and a family that the paper says has none has none
 said-none : (f : Family) (b : Lent) → NoObject f → row f b .hasObject ≡ false

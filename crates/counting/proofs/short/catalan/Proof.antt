@@ -2,7 +2,6 @@
 -- Assumes nothing.
 use mathlib.Core.Path.{_≡_, sym, ap}
 use Prim.Native.Nat.{ℕ, _<_}
-use native.Mathlib.Omega.{arith}
 use Rattle.numbers.specs.Sums.{range, sumOver}
 use Rattle.numbers.specs.Numbers.{catalanOf, catalansDown}
 use Rattle.numbers.proofs.Past.{beyond}
