@@ -1,6 +1,7 @@
-/* Times COUNT, NEXT, PREVIOUS, RANK and UNRANK on random objects, in the library and beside it, in one run. With `count` as its argument it
- * runs every measurement once, for callgrind to count instructions. Prints one line a measurement: family, call, who, nanoseconds a call. An earlier
- * build of the library may be linked beside today's, its functions renamed (`before.h`). */
+/* Times COUNT, NEXT, PREVIOUS, RANK and UNRANK on random objects, in the library and beside it, and a walk's steps beside NEXT or PREVIOUS followed
+ * by RANK, in one run. With `count` as its argument it runs every measurement once, for callgrind to count instructions. Prints one line a
+ * measurement: family, call, who, nanoseconds a call. An earlier build of the library may be linked beside today's, its functions renamed
+ * (`before.h`), for the calls alone. */
 #include "../include/arrangements.h"
 #include "before.h"
 #include "others.h"
@@ -22,16 +23,17 @@ typedef struct {
     int ranks; /* does the count fit? */
 } Family;
 
-typedef enum { COUNT, NEXT, PREVIOUS, RANK, UNRANK } Call;
-typedef enum { LIBRARY, BEFORE, PLAIN, CPP, GSL } Who;
+typedef enum { COUNT, NEXT, PREVIOUS, RANK, UNRANK, WALK_NEXT, WALK_PREVIOUS } Call;
+typedef enum { LIBRARY, BEFORE, PLAIN, CPP, GSL, FRESH } Who; /* FRESH: NEXT or PREVIOUS and a fresh RANK, for a walk's step */
 
-static const char *const CALLS[] = {"COUNT", "NEXT", "PREVIOUS", "RANK", "UNRANK"};
-static const char *const WHO[] = {"library", "before", "plain", "c++", "gsl"};
+static const char *const CALLS[] = {"COUNT", "NEXT", "PREVIOUS", "RANK", "UNRANK", "WALK NEXT", "WALK PREVIOUS"};
+static const char *const WHO[] = {"library", "before", "plain", "c++", "gsl", "fresh"};
 
 enum { MOST = 5 }; /* how many can be measured beside each other */
 
 static uint8_t pool[POOL][PLACES];
-static uint64_t ranks[POOL];
+static uint64_t ranks[POOL];   /* what UNRANK is asked for */
+static uint64_t numbers[POOL]; /* the rank of each object, where the count fits */
 static arrangement_family family; /* what is measured, as the library takes it */
 static arrangement_lists lists;
 static volatile uint64_t sink;
@@ -121,8 +123,20 @@ static void fill_pool(const Family *f) {
         else if (f->kind == 4) random_blocks(f, pool[i]);
         else if (f->kind == 5) plain_unrank(5, f->n, f->k, f->counts, 0, ranks[i], pool[i], f->len);
         else random_dyck(f, pool[i]);
+        if (f->ranks) plain_rank(f->kind, f->n, f->k, f->counts, f->letters, pool[i], f->len, &numbers[i]);
         gsl_take(i, pool[i], f->len);
     }
+}
+
+/* A walk's step with the object's number, or in its place NEXT or PREVIOUS and a fresh RANK. Not inlined: it would make the calls below dearer. */
+__attribute__((noinline)) static uint64_t walk_step(Who who, Call c, const Family *f, uint64_t number, uint8_t *x) {
+    uint32_t code;
+    if (who == FRESH) {
+        code = c == WALK_NEXT ? arrangement_next(family, &lists, x, f->len) : arrangement_previous(family, &lists, x, f->len);
+        code += arrangement_rank(family, &lists, x, f->len, &number);
+    } else
+        code = c == WALK_NEXT ? arrangement_walk_next(family, &lists, x, f->len, &number) : arrangement_walk_previous(family, &lists, x, f->len, &number);
+    return number + code;
 }
 
 /* One call on one object of the pool. The bytes are copied first, for everybody. */
@@ -131,12 +145,14 @@ static uint64_t call(Who who, Call c, const Family *f, int i, uint8_t *x) {
     uint32_t code = 0;
     const uint8_t *counts = f->counts;
     memcpy(x, pool[i], PLACES);
+    if (c == WALK_NEXT || c == WALK_PREVIOUS) return walk_step(who, c, f, numbers[i], x);
     if (who == LIBRARY) switch (c) {
         case COUNT: code = arrangement_count(family, &lists, &value); break;
         case NEXT: code = arrangement_next(family, &lists, x, f->len); break;
         case PREVIOUS: code = arrangement_previous(family, &lists, x, f->len); break;
         case RANK: code = arrangement_rank(family, &lists, x, f->len, &value); break;
         case UNRANK: code = arrangement_unrank(ranks[i], family, &lists, x, f->len); break;
+        default: break;
         }
     else if (who == BEFORE) switch (c) {
         case COUNT: code = earlier_count(family, &lists, &value); break;
@@ -144,6 +160,7 @@ static uint64_t call(Who who, Call c, const Family *f, int i, uint8_t *x) {
         case PREVIOUS: code = earlier_previous(family, &lists, x, f->len); break;
         case RANK: code = earlier_rank(family, &lists, x, f->len, &value); break;
         case UNRANK: code = earlier_unrank(ranks[i], family, &lists, x, f->len); break;
+        default: break;
         }
     else if (who == PLAIN) switch (c) {
         case COUNT: code = plain_count(f->kind, f->n, f->k, counts, f->letters, &value); break;
@@ -151,19 +168,21 @@ static uint64_t call(Who who, Call c, const Family *f, int i, uint8_t *x) {
         case PREVIOUS: code = plain_previous(f->kind, f->n, f->k, counts, f->letters, x, f->len); break;
         case RANK: code = plain_rank(f->kind, f->n, f->k, counts, f->letters, x, f->len, &value); break;
         case UNRANK: code = plain_unrank(f->kind, f->n, f->k, counts, f->letters, ranks[i], x, f->len); break;
+        default: break;
         }
     else if (who == CPP) code = c == NEXT ? cpp_next(x, f->len) : cpp_previous(x, f->len);
     else code = gsl_step((int)f->kind, c == NEXT, i, f->n, f->len);
     return value + code;
 }
 
-/* The library and the plain implementation must agree on every call that is timed. */
-static void agree(const Family *f, Call c) {
+/* The library and the other must agree on every call that is timed. */
+static void agree(const Family *f, Call c, Who other) {
     uint8_t a[PLACES], b[PLACES];
     for (int i = 0; i < POOL; i++) {
-        uint64_t u = call(LIBRARY, c, f, i, a), v = call(PLAIN, c, f, i, b);
+        uint64_t u = call(LIBRARY, c, f, i, a), v = call(other, c, f, i, b);
         if (u != v || memcmp(a, b, f->len) != 0) {
-            fprintf(stderr, "%s of %s: the plain implementation differs at object %d (%llu, %llu)\n", CALLS[c], f->name, i, (unsigned long long)u, (unsigned long long)v);
+            fprintf(stderr, "%s of %s: %s differs at object %d (%llu, %llu)\n", CALLS[c], f->name, WHO[other], i, (unsigned long long)u,
+                    (unsigned long long)v);
             exit(1);
         }
     }
@@ -273,12 +292,20 @@ static const Family GROWTH[] = {
     {"6 Dyck words 40", "costly", 6, 40, 0, {0}, 0, 80, 0},
 };
 
+static void walk_steps(const Family *f, int counting) {
+    static const Who who[] = {LIBRARY, FRESH};
+    for (Call c = WALK_NEXT; c <= WALK_PREVIOUS; c++) {
+        agree(f, c, FRESH);
+        measure(who, 2, c, f, counting);
+    }
+}
+
 static void all_calls(const Family *f, int counting) {
     fill_pool(f);
     for (Call c = COUNT; c <= UNRANK; c++) {
         if (!f->ranks && c != NEXT && c != PREVIOUS) continue;
         if (f->pool[0] == 'c' && c == COUNT) continue;
-        agree(f, c);
+        agree(f, c, PLAIN);
         Who who[MOST] = {LIBRARY, PLAIN};
         int number = 2, steps = c == NEXT || c == PREVIOUS;
 #ifdef WITH_BEFORE
@@ -290,6 +317,7 @@ static void all_calls(const Family *f, int counting) {
 #endif
         measure(who, number, c, f, counting);
     }
+    if (f->ranks) walk_steps(f, counting);
 }
 
 int main(int argc, char **argv) {

@@ -22,6 +22,7 @@ for path in glob.glob(f"{out}/callgrind.*"):
 interpreted = next((w for (_, _, _, w) in times if w.startswith("sympy")), None)
 families = list(dict.fromkeys((f, p) for (f, p, _, w) in times if w == "library"))
 calls = ("COUNT", "NEXT", "PREVIOUS", "RANK", "UNRANK")
+walks = ("WALK NEXT", "WALK PREVIOUS")
 earlier = any(w == "before" for (_, _, _, w) in times)
 
 
@@ -34,7 +35,8 @@ def ns(v):
 
 
 def say(*lines):
-    print("\n".join(lines))
+    for line in lines:
+        print(line)
 
 
 def shell(command):
@@ -61,10 +63,38 @@ def comparison():
 
 
 def growth():
-    say("| family, the object that costs most | NEXT | PREVIOUS | RANK | UNRANK |", "|---|---:|---:|---:|---:|")
+    shown = (*calls[1:], *walks)
+    say(f"| family, the object that costs most | {' | '.join(shown)} |", "|---" + "|---:" * len(shown) + "|")
     for family, pool in families:
         if pool == "costly":
-            say(f"| {family} | " + " | ".join(ns(counts.get((family, pool, c, "library"))) for c in calls[1:]) + " |")
+            say(f"| {family} | " + " | ".join(ns(counts.get((family, pool, c, "library"))) for c in shown) + " |")
+
+
+def walk_rows():
+    """Of each step of a walk: the family, the step, its time and NEXT's or PREVIOUS's and RANK's, its instructions and theirs."""
+    for family, pool in families:
+        for step in walks:
+            at = (family, pool, step)
+            if (*at, "library") in times and pool == "random":
+                yield family, step, times[(*at, "library")], times[(*at, "fresh")], counts[(*at, "library")], counts[(*at, "fresh")]
+
+
+def walk_table():
+    say("| family | step | walk, ns | step and RANK, ns | times faster | walk's instructions | step's and RANK's | times fewer |",
+        "|---|---|---:|---:|---:|---:|---:|---:|")
+    for family, step, walk, fresh, a, b in walk_rows():
+        say(f"| {family} | {step} | {ns(walk)} | {ns(fresh)} | {ratio(fresh, walk)} | {ns(a)} | {ns(b)} | {ratio(b, a)} |")
+
+
+def walk_targets(family, least):
+    """The least ratios by time and by instructions, of that family and of all; what lies below the target."""
+    rows = [(fresh / walk, b / a, f"{step} of {f}", least if f == family else 1) for f, step, walk, fresh, a, b in walk_rows()]
+    there = [r for r in rows if r[3] == least]
+    by_time, by_count = min(rows), min(rows, key=lambda r: r[1])
+    say(f"- A walk's step at least {least} times faster than NEXT or PREVIOUS and RANK on {family[2:]}: least {min(there)[0]:.2f} by time, "
+        f"{min(r[1] for r in there):.2f} by instructions; on no kind slower: least {by_time[0]:.2f} by time ({by_time[2]}), "
+        f"{by_count[1]:.2f} by instructions ({by_count[2]}).")
+    say(*[f"  - missed: {r[2]} ({r[0]:.2f} by time, {r[1]:.2f} by instructions)" for r in rows if r[0] < r[3]])
 
 
 def worst(group, limit):
@@ -103,6 +133,7 @@ def targets():
     if slow:
         say(f"- RANK and UNRANK at least 100 times faster than interpreted: least {min(slow)[0]:,.0f} ({min(slow)[1]}).")
         say(*[f"  - missed: {what} ({times_faster:,.0f})" for times_faster, what in slow if times_faster < 100])
+    walk_targets("6 Dyck words 36", 2.2)
 
 
 say("# Benchmarks", "", f"Written by `benchmarks/run` on {datetime.date.today()}: {shell('lscpu | sed -n s/^Model.name:[[:space:]]*//p')}, {shell('gcc --version | head -1')}, -O2.", "")
@@ -124,8 +155,14 @@ say("", "Why, by the profile:", "",
     "- A Dyck word is read by two functions that call each other, as paper 01 asks, where the plain test is a loop.",
     "- Ranks of permutations and anagrams take a division or two for each place; SymPy's ranks of permutations are its fastest.",
     "- COUNT of subsets reads the constant table that paper 01 asks for. The compiler writes its 2,346 numbers out on the stack where it is used, once a",
-    "  call: that alone is most of the time, and what keeps COUNT behind GAP's Binomial.")
+    "  call: that alone is most of the time, and what keeps COUNT behind GAP's Binomial.",
+    "- A walk's step is NEXT or PREVIOUS and some 200 instructions for the questions and the count. The count of anagrams, a product, takes up to 730; that of",
+    "  set partitions above 26 models, a row of Stirling numbers, up to 2,350, so that these gain least among the large families.")
 say("", "## Growth", "", "Instructions of the library for a call on one object, at doubled lengths.", "")
 growth()
+say("", "## Walks", "",
+    "A walk's step, with the object's own number, beside NEXT or PREVIOUS followed by RANK, on the same 256 objects of each family whose count is below 2^64;",
+    "the two must agree on code, bytes and number first.", "")
+walk_table()
 say("", "## All calls", "")
 comparison()

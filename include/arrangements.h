@@ -1,12 +1,13 @@
-/* Arrangement numbers: the seven calls on families of combinatorial objects, and the length of an object.
+/* Arrangement numbers: the seven calls on families of combinatorial objects, the length of an object, and walks that know their number.
  *
  * Build the library with `rt staticlib arrangements` and link target/staticlib/libarrangements.a.
  * docs/SCOPE.md says what families, orders, calls and questions are, docs/PROMISES.md what is proved.
  *
  * Every call answers any family, lists and bytes. It asks only this of its pointers, and what it does is undefined only where this fails:
  *   - each is valid and not null, also where its length is 0, as for an empty list or an empty object, through which nothing is read or written;
- *   - object, *value, the lists and the bytes of the lists don't overlap one another.
- * Nothing is kept between calls. Any number of threads may call at once, each with its own object and *value; lists may be shared: no call writes them.
+ *   - object, *value, *number, the lists and the bytes of the lists don't overlap one another.
+ * Nothing is kept between calls. Any number of threads may call at once, each with its own object, *value and *number; lists may be shared: no call
+ * writes them.
  *
  * A family is (kind, n, k) and, for kind 2, a list of letter counts, one byte a letter; for other kinds the list is empty.
  *   kind 1  subsets of k out of 1 to n, ascending          k bytes       n, k up to 80
@@ -36,10 +37,10 @@ extern "C" {
 #define ARRANGEMENT_REFUSED_BOUNDS 2u        /* are n and k within the table above? */
 #define ARRANGEMENT_REFUSED_LETTER_COUNTS 3u /* for kind 2, is the count list n long with a sum of at most 80; is it empty for other kinds? */
 #define ARRANGEMENT_REFUSED_NO_OBJECTS 4u    /* has the family an object? (all but COUNT, which answers 0) */
-#define ARRANGEMENT_REFUSED_OVERFLOW 5u      /* is the count below 2^64? (COUNT, RANK, UNRANK) */
+#define ARRANGEMENT_REFUSED_OVERFLOW 5u      /* is the count below 2^64? (COUNT, RANK, UNRANK, a walk's steps) */
 #define ARRANGEMENT_REFUSED_LENGTH 6u        /* has the buffer the object's length? (all but COUNT) */
-#define ARRANGEMENT_REFUSED_NOT_AN_OBJECT 7u /* does it hold an object of the family? (RANK, NEXT, PREVIOUS) */
-#define ARRANGEMENT_REFUSED_RANK 8u          /* is the rank below the count? (UNRANK) */
+#define ARRANGEMENT_REFUSED_NOT_AN_OBJECT 7u /* does it hold an object of the family? (RANK, NEXT, PREVIOUS, a walk's steps) */
+#define ARRANGEMENT_REFUSED_RANK 8u          /* is the rank below the count? (UNRANK; a walk's steps, of *number) */
 
 /* A family is passed by value. Make one by arrangement_family_of: later fields then have their defaults. */
 typedef struct {
@@ -94,6 +95,13 @@ uint32_t arrangement_rank(arrangement_family f, const arrangement_lists *lists, 
 
 /* UNRANK: writes the object that has `rank` objects before it. */
 uint32_t arrangement_unrank(uint64_t rank, arrangement_family f, const arrangement_lists *lists, uint8_t *object, size_t object_len);
+
+/* A walk: an object, and the number kept of it. It starts at any object, with the *number that arrangement_rank writes for it. A step puts RANK's
+ * questions, and question 8 to *number; then it steps as NEXT or PREVIOUS does, and adds one to *number or takes one off: after any steps *number is
+ * the object's RANK, which is never worked out again. ARRANGEMENT_END and refusals change neither object nor *number.
+ * Any other *number below the count is stepped along too; PREVIOUS that finds an object while *number is 0 is refused by 8. */
+uint32_t arrangement_walk_next(arrangement_family f, const arrangement_lists *lists, uint8_t *object, size_t object_len, uint64_t *number);
+uint32_t arrangement_walk_previous(arrangement_family f, const arrangement_lists *lists, uint8_t *object, size_t object_len, uint64_t *number);
 
 #ifdef __cplusplus
 }

@@ -1,4 +1,4 @@
-/* A number for an arrangement, the arrangement for a number, one step on and back. Build and run: examples/c/run */
+/* A number for an arrangement, the arrangement for a number, one step on and back, a walk. Build and run: examples/c/run */
 #include <inttypes.h>
 #include <stdio.h>
 #include <string.h>
@@ -41,6 +41,17 @@ int main(void)
     if (arrangement_previous(trees, &lists, tree, 7) != ARRANGEMENT_DONE)
         return 1;
     show("and back", tree, 7);
+
+    /* A walk: the number beside the tree, three steps on and one back, with no rank worked out. */
+    for (int step = 0; step < 4; step++) {
+        char what[32];
+        uint32_t stepped = step < 3 ? arrangement_walk_next(trees, &lists, tree, 7, &number)
+                                    : arrangement_walk_previous(trees, &lists, tree, 7, &number);
+        if (stepped != ARRANGEMENT_DONE)
+            return 1;
+        snprintf(what, sizeof what, "a walk, at number %" PRIu64, number);
+        show(what, tree, 7);
+    }
 
     /* A number that no arrangement has is refused by its question, 8, and the tree stays. */
     uint32_t code = arrangement_unrank(all, trees, &lists, tree, 7);

@@ -9,7 +9,9 @@ use Rattle.families.specs.declared.Family.{Family}
 use Rattle.families.specs.Table.{Lent}
 use Rattle.families.specs.Calls.{respond}
 use Rattle.families.specs.Codes.{codeOf, valueOf, Coded}
-use Rattle.arrangements.specs.Told.{plain, told, Valued, valued}
+use Rattle.walk.specs.declared.Way.{Way}
+use Rattle.walk.specs.Walks.{Kept, Outcome, stepKept}
+use Rattle.arrangements.specs.Told.{plain, told, Valued, valued, CodedStep, toldStep}
 
 -- a code that is neither 20 nor 21 is told as it is
 pub others : (code : ℕ) → (code ≡ 20 → ⊥) → (code ≡ 21 → ⊥) → code ≡ plain code
@@ -36,3 +38,10 @@ module _ {a a' w : Answer} (v : ℕ) (found : a ≡ a') (due : a ≡ w) where
   pub refusing : {r q : ℕ} → a' ≡ REFUSED q → r ≡ plain q → _≡_ {A = Valued} (r, v) (valued w v)
   unfolding codeOf valueOf
   refusing e er = ap (λ (r : ℕ). (r, v)) er ∙ ap (λ (a : Answer). valued a v) (sym e) ∙ valuing
+
+-- a step of a walk
+pub telling-step : {b b' : Lent} → b ≡ b' → (f : Family) {a : Answer} {left : Kept} (way : Way) (size : ℕ) (w : Kept) → _≡_ {A = Outcome} (a, left) (stepKept way f b size w)
+    → {r code : ℕ} → code ≡ codeOf a → r ≡ plain code → _≡_ {A = CodedStep} (r, left) (toldStep (stepKept way f b' size w))
+telling-step same f {left = left} way size w said ec er =
+    ap {B = CodedStep} (λ (r : ℕ). (r, left)) (er ∙ ap plain ec)
+    ∙ ap {B = CodedStep} (λ (s : Outcome). toldStep s) (said ∙ ap {B = Outcome} (λ (b : Lent). stepKept way f b size w) same)

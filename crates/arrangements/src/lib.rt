@@ -2,17 +2,21 @@
 // number. include/arrangements.h declares them.
 ghost use mathlib.Core.Path.{_≡_};
 ghost use mathlib.Core.List.{[], map};
+ghost use lib.ListN.{length};
 ghost use Rattle.listings.specs.Calls.{COUNT, FIRST, LAST, NEXT, PREVIOUS, RANK, UNRANK};
 ghost use Rattle.families.specs.Table.{lent};
 ghost use Rattle.families.specs.Calls.{respond, measured};
 ghost use Rattle.families.specs.Codes.{Coded};
-ghost use Rattle.arrangements.specs.Told.{plain as plainly, told, Valued, valued};
+ghost use Rattle.walk.specs.declared.Way.the-variants.{Forth, Back};
+ghost use Rattle.walk.specs.Walks.{kept, stepKept};
+ghost use Rattle.arrangements.specs.Told.{plain as plainly, told, Valued, valued, CodedStep, toldStep};
 use families::Counted;
 use families::Family;
 use families::Length;
 use families::Lists;
 use families::Ranked;
 use families::codes;
+use walk::Way;
 
 // The lists as `families` takes them. A later list is one more place.
 fn by_value<'a>(lists: &Lists<'a>) -> Lists<'a>
@@ -110,4 +114,39 @@ pub extern "C" fn arrangement_unrank(rank: u64, f: Family, lists: &Lists, object
     ensures { λ r. ⌜ _≡_ {A = Coded} (r, now (object .exit)) (told (respond (UNRANK rank) f (lent (map now (now (lists .entry)))) (now (object .entry)))) ⌝ }
 {
     plain(codes::written(families::unrank(rank, f, by_value(lists), object)))
+}
+
+// A step of a walk on lent bytes and the lent number kept of them.
+fn walk_step(way: Way, f: Family, lists: &Lists, object: &mut [u8], number: &mut u64) -> u32
+    ensures { λ r. ⌜ _≡_ {A = CodedStep} (r, kept (now (object .exit)) (now (number .exit))) (toldStep (stepKept way f (lent (map now (now (lists .entry)))) (length (now (object .entry))) (kept (now (object .entry)) (now (number .entry))))) ⌝ }
+{
+    let before = *number;
+    let after = walk::step_lent(way, before, f, by_value(lists), object);
+    *number = after.number;
+    let answer = after.answer;
+    plain(codes::stepped(answer))
+}
+
+#[no_mangle]
+pub extern "C" fn arrangement_walk_next(
+    f: Family,
+    lists: &Lists,
+    object: &mut [u8],
+    number: &mut u64,
+) -> u32
+    ensures { λ r. ⌜ _≡_ {A = CodedStep} (r, kept (now (object .exit)) (now (number .exit))) (toldStep (stepKept Forth f (lent (map now (now (lists .entry)))) (length (now (object .entry))) (kept (now (object .entry)) (now (number .entry))))) ⌝ }
+{
+    walk_step(Way::Forth, f, lists, object, number)
+}
+
+#[no_mangle]
+pub extern "C" fn arrangement_walk_previous(
+    f: Family,
+    lists: &Lists,
+    object: &mut [u8],
+    number: &mut u64,
+) -> u32
+    ensures { λ r. ⌜ _≡_ {A = CodedStep} (r, kept (now (object .exit)) (now (number .exit))) (toldStep (stepKept Back f (lent (map now (now (lists .entry)))) (length (now (object .entry))) (kept (now (object .entry)) (now (number .entry))))) ⌝ }
+{
+    walk_step(Way::Back, f, lists, object, number)
 }

@@ -21,6 +21,7 @@ use counting::Count;
 use listings::Step;
 pub use questions::Call;
 pub use questions::Verdict;
+pub use questions::ask;
 use table::Size;
 
 // "A family is passed by value: its kind, n and k, each an unsigned 64-bit number."

@@ -39,6 +39,8 @@ extern "C" {
     fn arrangement_previous(f: Family, lists: *const CLists, object: *mut u8, object_len: usize) -> c_uint;
     fn arrangement_rank(f: Family, lists: *const CLists, object: *const u8, object_len: usize, value: *mut u64) -> c_uint;
     fn arrangement_unrank(rank: u64, f: Family, lists: *const CLists, object: *mut u8, object_len: usize) -> c_uint;
+    fn arrangement_walk_next(f: Family, lists: *const CLists, object: *mut u8, object_len: usize, number: *mut u64) -> c_uint;
+    fn arrangement_walk_previous(f: Family, lists: *const CLists, object: *mut u8, object_len: usize, number: *mut u64) -> c_uint;
 }
 
 /// A family, with the letter counts that kind 2 lends beside it.
@@ -110,5 +112,15 @@ impl Arrangements {
     pub fn unrank(&self, rank: u64, object: &mut [u8]) -> Code {
         let (f, lists) = self.parts();
         unsafe { arrangement_unrank(rank, f, &lists, object.as_mut_ptr(), object.len()) }
+    }
+
+    pub fn walk_next(&self, object: &mut [u8], number: &mut u64) -> Code {
+        let (f, lists) = self.parts();
+        unsafe { arrangement_walk_next(f, &lists, object.as_mut_ptr(), object.len(), number) }
+    }
+
+    pub fn walk_previous(&self, object: &mut [u8], number: &mut u64) -> Code {
+        let (f, lists) = self.parts();
+        unsafe { arrangement_walk_previous(f, &lists, object.as_mut_ptr(), object.len(), number) }
     }
 }

@@ -1,4 +1,4 @@
-//! A number for an arrangement, the arrangement for a number, one step on and back. Build and run: examples/rust/run
+//! A number for an arrangement, the arrangement for a number, one step on and back, a walk. Build and run: examples/rust/run
 
 use arrangements_example::{Arrangements, Family, DONE, END, REFUSED_RANK};
 
@@ -20,6 +20,12 @@ fn main() {
     assert_eq!(plans.previous(&mut plan), DONE);
     println!("and back                  {plan:?}");
     assert_eq!(plan, again);
+
+    // A walk: the number beside the plan, two steps on and one back, with no rank worked out.
+    for on in [true, true, false] {
+        assert_eq!(if on { plans.walk_next(&mut plan, &mut number) } else { plans.walk_previous(&mut plan, &mut number) }, DONE);
+        println!("a walk, at number {number}     {plan:?}");
+    }
 
     assert_eq!(plans.last(&mut plan), DONE);
     let last = plan;

@@ -1,10 +1,10 @@
-//! Random calls of all kinds, valid and damaged, small and at 80 places and at both edges of 2^64, on the library and on the reference. The
-//! first difference is printed and ends the run with status 1.
+//! Random calls of all kinds, valid and damaged, small and at 80 places and at both edges of 2^64, on the library and on the reference; then
+//! walks, started or made up. The first difference is printed and ends the run with status 1.
 
 mod reference;
 
 use arrangements_example::{Arrangements, Family};
-use reference::{refusal, Kind, Tables, LARGE};
+use reference::{refusal, stride, Kind, Tables, LARGE};
 use std::cmp::Ordering;
 
 struct Random(u64);
@@ -126,6 +126,87 @@ fn is_next(t: &Tables, f: &Kind, x: &[u8], y: &[u8]) -> bool {
     g.count(t) >= LARGE || g.rank(t, &b) == g.rank(t, &a) + 1
 }
 
+fn library(f: &Kind) -> Arrangements {
+    Arrangements { family: Family::of(f.kind, f.n, f.k), counts: f.counts.clone() }
+}
+
+/// Has the family objects, and so a count that the reference can be asked for?
+fn usable(t: &Tables, f: &Kind) -> bool {
+    [0, 6].contains(&refusal(t, f, "FIRST", &[], 0))
+}
+
+/// The number of a walk that nobody started: its object's or one off it, the edges of the count and of 64 bits, or any.
+fn made_up(r: &mut Random, t: &Tables, f: &Kind, x: &[u8]) -> u64 {
+    let count = if usable(t, f) { f.count(t).min(u64::MAX as u128) as u64 } else { 1 + r.below(100) };
+    let at = if refusal(t, f, "RANK", x, 0) == 0 { f.rank(t, x) as u64 } else { r.below(count) };
+    match r.below(9) {
+        0 => 0,
+        1 => count - 1,
+        2 => count,
+        3 => u64::MAX,
+        4 => r.next(),
+        5 => r.below(count),
+        6 => at.wrapping_sub(1),
+        7 => at.wrapping_add(1),
+        _ => at,
+    }
+}
+
+/// The family with another count list beside it: a letter more or less, a count changed, or two counts exchanged.
+fn other_lists(r: &mut Random, f: &Kind) -> Kind {
+    let mut g = f.clone();
+    let letters = g.counts.len();
+    match r.below(4) {
+        0 if letters > 0 => g.counts.truncate(letters - 1),
+        1 if letters > 0 => g.counts[r.below(letters as u64) as usize] ^= 1,
+        2 if letters > 0 => g.counts.swap(0, r.below(letters as u64) as usize),
+        _ => g.counts.push(r.below(2) as u8),
+    }
+    g
+}
+
+/// What the steps of all walks came to.
+#[derive(Default)]
+struct Steps {
+    moved: u64,
+    ended: u64,
+    refused: u64,
+}
+
+/// A walk of up to 12 steps, started by RANK or made up, mostly in a family that has walks; a step in ten is handed other lists, and half
+/// of the steps that don't move end the walk. Where it was started, its number must be the reference's rank after every step, too.
+fn walk(r: &mut Random, t: &Tables, steps: &mut Steps) -> Result<(), String> {
+    let mut f = family(r);
+    while r.below(8) > 0 && !(usable(t, &f) && f.count(t) < 1 << 64) {
+        f = family(r);
+    }
+    let mut x = buffer(r, t, &f, usable(t, &f));
+    let mut number = made_up(r, t, &f, &x);
+    let started = r.below(2) == 0 && library(&f).rank(&x, &mut number) == 0;
+    let lean = r.below(3);
+    for _ in 0..=r.below(12) {
+        let on = lean == 0 || lean == 1 && r.below(2) == 0;
+        let g = if r.below(10) == 0 { other_lists(r, &f) } else { f.clone() };
+        let (mut y, mut after) = (x.clone(), number);
+        let code = if on { library(&g).walk_next(&mut y, &mut after) } else { library(&g).walk_previous(&mut y, &mut after) };
+        let expected = stride(t, &g, on, &x, number);
+        if (code, &y, after) != (expected.0, &expected.1, expected.2) || started && f.rank(t, &y) != after as u128 {
+            let step = describe(&g, if on { "WALK NEXT" } else { "WALK PREVIOUS" }, number, &x);
+            return Err(format!("{step}\nthe library answered {code} with number {after} and bytes {y:?}; expected {expected:?}"));
+        }
+        match code {
+            0 => steps.moved += 1,
+            100 => steps.ended += 1,
+            _ => steps.refused += 1,
+        }
+        if code != 0 && r.below(2) == 0 {
+            break;
+        }
+        (x, number) = (y, after);
+    }
+    Ok(())
+}
+
 fn main() {
     let calls: u64 = std::env::args().nth(1).map_or(300_000, |a| a.parse().unwrap());
     let seed: u64 = std::env::args().nth(2).map_or(1, |a| a.parse().unwrap());
@@ -133,8 +214,7 @@ fn main() {
     let mut answered = 0u64;
     for turn in 0..calls {
         let f = family(&mut r);
-        let lib = Arrangements { family: Family::of(f.kind, f.n, f.k), counts: f.counts.clone() };
-        let usable = refusal(&t, &f, "FIRST", &[], 0) == 6 || refusal(&t, &f, "FIRST", &[], 0) == 0;
+        let (lib, usable) = (library(&f), usable(&t, &f));
         let x = buffer(&mut r, &t, &f, usable);
         let call = CALLS[r.below(8) as usize];
         let rank = match r.below(4) {
@@ -178,5 +258,14 @@ fn main() {
             std::process::exit(1);
         }
     }
-    println!("{calls} calls agree, {answered} of them answered and {} refused", calls - answered);
+    let (walks, mut steps) = (calls / 10, Steps::default());
+    for turn in 0..walks {
+        if let Err(difference) = walk(&mut r, &t, &mut steps) {
+            println!("walk {turn}: {difference}");
+            std::process::exit(1);
+        }
+    }
+    let Steps { moved, ended, refused } = steps;
+    print!("{calls} calls agree, {answered} of them answered and {} refused; ", calls - answered);
+    println!("{walks} walks agree, {moved} of their steps moved, {ended} heard END and {refused} were refused");
 }

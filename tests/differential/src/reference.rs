@@ -1,6 +1,6 @@
 //! An independent implementation of the families: objects by the table's words, order by a comparison, numbers by counting extensions in
 //! 128-bit arithmetic that stops at 2^100. It shares no code with the library: it has no steps, only ranks, so that a neighbour is the object
-//! whose rank differs by one.
+//! whose rank differs by one; a walk's step is the object of that rank, whatever number the walk keeps.
 
 use std::cmp::Ordering;
 
@@ -338,7 +338,7 @@ fn dyck_rank(t: &Tables, x: &[u8]) -> u128 {
     add(before, add(mul(dyck_rank(t, i), t.catalan[n - 1 - j]), dyck_rank(t, r)))
 }
 
-/// What a call answers: a code as the library's, and a value for COUNT and RANK.
+/// The first question that refuses a call, or 0. WALK is a walk's step, either way, with the number kept in place of a rank.
 pub fn refusal(t: &Tables, f: &Kind, call: &str, x: &[u8], rank: u64) -> u32 {
     let q = f.table();
     if q != 0 || call == "LENGTH" {
@@ -348,17 +348,34 @@ pub fn refusal(t: &Tables, f: &Kind, call: &str, x: &[u8], rank: u64) -> u32 {
     if call != "COUNT" && count == 0 {
         return 4;
     }
-    if ["COUNT", "RANK", "UNRANK"].contains(&call) && count >= 1 << 64 {
+    if ["COUNT", "RANK", "UNRANK", "WALK"].contains(&call) && count >= 1 << 64 {
         return 5;
     }
     if call != "COUNT" && x.len() != f.length() {
         return 6;
     }
-    if ["RANK", "NEXT", "PREVIOUS"].contains(&call) && !f.holds(x) {
+    if ["RANK", "NEXT", "PREVIOUS", "WALK"].contains(&call) && !f.holds(x) {
         return 7;
     }
-    if call == "UNRANK" && rank as u128 >= count {
+    if ["UNRANK", "WALK"].contains(&call) && rank as u128 >= count {
         return 8;
     }
     0
+}
+
+/// A step of a walk: its code, and the bytes and the number that it leaves.
+pub fn stride(t: &Tables, f: &Kind, on: bool, x: &[u8], number: u64) -> (u32, Vec<u8>, u64) {
+    let stays = |code| (code, x.to_vec(), number);
+    let q = refusal(t, f, "WALK", x, number);
+    if q != 0 {
+        return stays(q);
+    }
+    let at = f.rank(t, x);
+    match (on, at, number) {
+        (true, _, _) if at + 1 == f.count(t) => stays(100),
+        (true, _, _) => (0, f.unrank(t, at + 1), number + 1),
+        (false, 0, _) => stays(100),
+        (false, _, 0) => stays(8),
+        (false, _, _) => (0, f.unrank(t, at - 1), number - 1),
+    }
 }
