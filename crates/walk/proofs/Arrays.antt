@@ -2,8 +2,8 @@
 -- Assumes nothing.
 use mathlib.Core.Path.{_≡_, refl, sym, _∙_, ap}
 use mathlib.Core.Option.{none, some}
-use mathlib.Core.List.{List, [], _∷_, _++_}
-use Prim.Native.Nat.{ℕ, zero, suc, _-_, _≤_, _^_}
+use mathlib.Core.List.{[], _++_}
+use Prim.Native.Nat.{ℕ, zero, suc, _-_, _≤_}
 use native.Mathlib.Omega.{arith}
 use lib.ListN.{length, take, drop, replicate, take-append-drop}
 use lib.Seq.{length-take-le}
@@ -13,7 +13,7 @@ use Rattle.listings.specs.Calls.{RANK, Answer, REFUSED, RANKED, Said, act}
 use Rattle.listings.proofs.Walks.{passes}
 use Rattle.families.specs.declared.Family.{Family}
 use Rattle.families.specs.Table.{Lent}
-use Rattle.families.specs.Families.{objectLength, isObject, comesBefore, listing, rankOf}
+use Rattle.families.specs.Families.{isObject, rankOf}
 use Rattle.families.specs.Questions.{refusal}
 use Rattle.families.specs.Calls.{respond}
 use Rattle.families.proofs.FamilyFacts.{short}
@@ -21,7 +21,7 @@ use Rattle.families.proofs.Verdicts.{admitted, asks-enough}
 use Rattle.families.proofs.Answered.{missed-where-refused}
 use Rattle.walk.specs.declared.Walk.{Walk}
 use Rattle.walk.specs.declared.Way.{Way}
-use Rattle.walk.specs.Walks.{Kept, kept, Outcome, stepRefusal, stepKept, keptBy, keep, stepWalk, walkAt, startedBy, startOf}
+use Rattle.walk.specs.Walks.{kept, Outcome, stepRefusal, stepKept, keptBy, keep, stepWalk, walkAt, startedBy, startOf}
 use Rattle.walk.proofs.Told.{refused-so}
 
 -- a walk with its own kept is the same walk

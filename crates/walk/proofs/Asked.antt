@@ -1,6 +1,6 @@
 -- What a step of a walk is asked, after RANK's questions the number kept: when it passes, what was asked then, and the first question missed.
 -- Assumes nothing.
-use mathlib.Core.Path.{_≡_, refl, sym, _∙_, ap}
+use mathlib.Core.Path.{_≡_, refl, sym, _∙_}
 use mathlib.Core.Bool.{Bool, true, false}
 use mathlib.Core.Option.{Option, none, some, Option·some-ne-none}
 use mathlib.Core.List.{List, [], _∷_, _++_}
@@ -10,14 +10,14 @@ use native.Mathlib.Decide.{decLt}
 use lib.Dec.{ltb, eqb}
 use borrow.Author.Tests.{lt-ltb, le-ltb, ltb-true, ne-eqb}
 use Rattle.numbers.specs.Limits.{longestObject}
-use Rattle.listings.specs.Calls.{Call, NEXT, PREVIOUS, RANK, UNRANK, Question, orElse, firstNo}
+use Rattle.listings.specs.Calls.{NEXT, PREVIOUS, RANK, Question, orElse, firstNo}
 use Rattle.families.specs.declared.Family.{Family}
 use Rattle.families.specs.Table.{Lent}
-use Rattle.families.specs.Families.{always, allowed, objectLength, countOf}
-use Rattle.families.specs.Questions.{asked, isIn, put, rankGiven, opening, closingFor, refusal, rankRefusal}
+use Rattle.families.specs.Families.{always, objectLength, countOf}
+use Rattle.families.specs.Questions.{asked, isIn, put, opening, closingFor, refusal, rankRefusal}
 use Rattle.families.proofs.QuestionLaws.{past, stop, none-left, passed, after-pass, after-no, left-passes, right-passes}
 use Rattle.families.proofs.FamilyFacts.{short}
-use Rattle.families.proofs.Verdicts.{opened, some-object, asks-enough, fits-asked, opens-alike, opening-asked, unrank-passes}
+use Rattle.families.proofs.Verdicts.{opened, some-object, asks-enough, fits-asked, opens-alike}
 use Rattle.walk.specs.declared.Way.{Way}
 use Rattle.walk.specs.declared.Way.the-variants.{Forth, Back}
 use Rattle.walk.specs.Walks.{callOf, numberQuestion, stepRefusal}
@@ -44,6 +44,12 @@ both-pass r count e =
     let qs = always 5 (ltb count (2 ^ 64)) ∷ always 8 (ltb r count) ∷ [] in
     (ltb-true r count (passed 8 qs e), ltb-true count (2 ^ 64) (passed 5 qs e))
 
+pub not-both : (r count q : ℕ) → rankRefusal r count ≡ some q → r < count → count < 2 ^ 64 → ⊥
+unfolding rankRefusal
+not-both r count q e low fits =
+    Option·some-ne-none q
+    (sym e ∙ past (always 5 (ltb count (2 ^ 64))) (always 8 (ltb r count) ∷ []) (lt-ltb count (2 ^ 64) fits) ∙ past (always 8 (ltb r count)) [] (lt-ltb r count low) ∙ none-left)
+
 module _ (f : Family) (b : Lent) (size : ℕ) (holds : Bool) where
   -- RANK's questions come first
 
@@ -63,23 +69,13 @@ module _ (f : Family) (b : Lent) (size : ℕ) (holds : Bool) where
       after-pass (opening RANK f b ++ closingFor RANK (countOf f b) (objectLength f b) size holds) (numberQuestion f b r ∷ []) e
       ∙ stop (numberQuestion f b r) [] (le-ltb r (countOf f b) high)
 
-  -- UNRANK of the number is put 5 and 8 too
-
-  pub number-fits : (r : ℕ) → refusal (UNRANK r) f b size holds ≡ none → (r < countOf f b) × (countOf f b < 2 ^ 64)
-  unfolding asked isIn countOf
-  number-fits r e = (asks-enough f b .below r size holds e, fits-asked f b (UNRANK r) size holds refl e)
-
-  -- where it misses one and RANK none, that is 8
-  pub missed-first : (r : ℕ) {q : ℕ} → refusal (UNRANK r) f b size holds ≡ some q → refusal RANK f b size holds ≡ none → stepRefusal f b size holds r ≡ some 8
+  -- where the number isn't below a count that fits, one of RANK's questions or 8 is missed
+  pub missed-first : (r : ℕ) → (r < countOf f b → countOf f b < 2 ^ 64 → ⊥) → refusal RANK f b size holds ≡ none → stepRefusal f b size holds r ≡ some 8
   unfolding asked isIn
-  missed-first r {q} e pass =
+  missed-first r beyond e =
       elim (decLt r (countOf f b)) [
-        | yes h ↦
-            absurd
-            (Option·some-ne-none q
-            (sym e
-            ∙ unrank-passes f b r size holds (opening-asked f b RANK size holds refl pass) (fits-asked f b RANK size holds refl pass) (asks-enough f b .sized RANK size holds refl pass) h))
-        | no h ↦ number-missed r pass (omega arith)
+        | yes h ↦ absurd (beyond h (fits-asked f b RANK size holds refl e))
+        | no h ↦ number-missed r e (omega arith)
       ]
 
   -- where the number is below a count that fits, the questions are those of the call

@@ -28,7 +28,6 @@ use Rattle.walk.specs.declared.Way.{Way}
 use Rattle.walk.specs.declared.Way.the-variants.{Forth, Back}
 use Rattle.walk.specs.Walks.{callOf, Kept, kept, Outcome, Handed, renumbered, stepKept, keptBy, keep, stepWalk, walkAt, startedBy, startOf, steps, walked, walkedLent, wayOf, runOf}
 use Rattle.walk.proofs.Asked.{number-passes, object-held}
-use Rattle.walk.proofs.Arrays.{keep-same}
 use Rattle.walk.proofs.Runs.{run-walks}
 use Rattle.walk.proofs.OneList.{one-list}
 use Rattle.walk.proofs.AnyWalk.{keeps, Beside, beside-object, misses, Gone, missed, ended, moved, numberless, gone, as-plain-call}

@@ -12,7 +12,6 @@ use Rattle.listings.specs.Calls.{Answer}
 use Rattle.families.specs.Table.{Lent}
 use Rattle.families.specs.Codes.{codeOf}
 use Rattle.walk.specs.declared.Walk.{Walk}
-use Rattle.walk.specs.declared.Way.{Way}
 use Rattle.walk.specs.Walks.{stepWalk, Handed, walked, wayOf, runOf}
 
 -- what a run leaves

@@ -9,7 +9,7 @@ use native.Mathlib.Omega.{arith}
 use native.Mathlib.Numerals.{add-one}
 use lib.ListN.{length}
 use Rattle.listings.specs.Bytes.{Bytes}
-use Rattle.listings.specs.Calls.{NEXT, PREVIOUS, Answer, REFUSED, STEPPED, END, Said, judged, placeOf, onward, backward, stepped, act}
+use Rattle.listings.specs.Calls.{NEXT, PREVIOUS, Answer, REFUSED, STEPPED, END, Said, judged, placeOf, stepped, act}
 use Rattle.listings.proofs.Stepping.{stepped-back}
 use Rattle.listings.proofs.Walks.{passes}
 use Rattle.families.specs.declared.Family.{Family}
@@ -20,7 +20,7 @@ use Rattle.families.specs.Calls.{respond}
 use Rattle.families.proofs.Going.{next-is}
 use Rattle.walk.specs.declared.Way.{Way}
 use Rattle.walk.specs.declared.Way.the-variants.{Forth, Back}
-use Rattle.walk.specs.Walks.{callOf, Kept, kept, Outcome, stepRefusal, neighbour, renumbered, goesTo, unlessMissed, stepKept}
+use Rattle.walk.specs.Walks.{callOf, kept, Outcome, stepRefusal, neighbour, renumbered, goesTo, unlessMissed, stepKept}
 use Rattle.walk.proofs.Asked.{as-the-call}
 
 -- the call of a step finds what the step finds

@@ -8,10 +8,9 @@ ghost use Prim.Native.Nat.{ℕ, _<_, _^_};
 ghost use lib.ListN.{length};
 ghost use Rattle.numbers.specs.Limits.{longestObject};
 ghost use Rattle.listings.specs.Bytes.{Bytes};
-ghost use Rattle.listings.specs.Calls.{UNRANK, Answer, Said};
+ghost use Rattle.listings.specs.Calls.{Answer, Said};
 ghost use Rattle.families.specs.Table.{lent};
 ghost use Rattle.families.specs.Families.{isObject, countOf};
-ghost use Rattle.families.specs.Questions.{refusal};
 ghost use Rattle.families.specs.Calls.{respond};
 ghost use Rattle.families.specs.Answers.{rankedAs, steppedAs};
 ghost use Rattle.walk.specs.declared.Walk.{Walk as WalkOf};
@@ -32,10 +31,11 @@ pub enum Way {
     Back,
 }
 
-// The family, the bytes kept (the first len of the array) and the number kept.
+// The bytes kept (the first len of the array), their family and the number kept. The array stands first, so that a copy of the walk and a
+// copy of its array are made of the same words.
 pub struct Walk {
-    pub family: Family,
     pub bytes: [u8; LONGEST_OBJECT],
+    pub family: Family,
     pub len: u64,
     pub number: u64,
 }
@@ -78,9 +78,9 @@ fn call<'a>(way: Way, f: Family, lists: Lists<'a>, object: &mut [u8]) -> Stepped
     }
 }
 
-// The first question that a step misses, where UNRANK of its number misses one.
+// The first question that a step misses whose number isn't below a count that fits.
 fn missed<'a>(f: Family, lists: Lists<'a>, object: &[u8]) -> u8
-    ensures { λ r. ⌜ ((number q : ℕ) → refusal (UNRANK number) f (lent (map now (lists .entry))) (length (now (object .entry))) (isObject f (lent (map now (lists .entry))) (now (object .entry))) ≡ some q → stepRefusal f (lent (map now (lists .entry))) (length (now (object .entry))) (isObject f (lent (map now (lists .entry))) (now (object .entry))) number ≡ some r) ⌝ }
+    ensures { λ r. ⌜ ((number : ℕ) → (number < countOf f (lent (map now (lists .entry))) → countOf f (lent (map now (lists .entry))) < 2 ^ 64 → ⊥) → stepRefusal f (lent (map now (lists .entry))) (length (now (object .entry))) (isObject f (lent (map now (lists .entry))) (now (object .entry))) number ≡ some r) ⌝ }
 {
     let Verdict::No(q) = families::ask(Call::Rank, f, lists, object) else {
         return 8;
@@ -137,7 +137,7 @@ fn step_numbered<'a>(
     }
 }
 
-// A step on lent bytes and the number kept of them. UNRANK's questions are put first, for 5 and 8: the call puts the others.
+// A step on lent bytes and the number kept of them. Questions 5 and 8 are put first, by one count: the call puts the others.
 pub fn step_lent<'a>(
     way: Way,
     number: u64,
@@ -147,7 +147,7 @@ pub fn step_lent<'a>(
 ) -> Numbered
     ensures { λ r. ⌜ _≡_ {A = Outcome} (steppedAs (r .answer), kept (now (object .exit)) (r .number)) (stepKept way f (lent (map now (lists .entry))) (length (now (object .entry))) (kept (now (object .entry)) number)) ⌝ }
 {
-    let Verdict::No(_) = families::ask(Call::Unrank(number), f, lists, object) else {
+    let Verdict::No(_) = families::rank_below(number, f, lists) else {
         return step_numbered(way, number, f, lists, object);
     };
     Numbered {

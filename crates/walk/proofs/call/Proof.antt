@@ -1,6 +1,5 @@
 -- `walk::call` meets its contract: a match of the way tells which call it is.
 -- Assumes nothing.
-use mathlib.Core.Path.{_≡_}
 use Rattle.walk.specs.Walks.{callOf}
 use borrow.Author.Needs.{needs}
 use Rattle.walk.proofs.call.Statement.{statement}

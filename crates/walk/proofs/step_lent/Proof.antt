@@ -1,14 +1,14 @@
 -- `walk::step_lent` meets its contract: questions 5 and 8 go first, since they alone need the count.
 -- Assumes nothing.
 use Rattle.families.proofs.Verdicts.{verdict}
-use Rattle.walk.proofs.Asked.{number-fits}
+use Rattle.walk.proofs.Asked.{both-pass, not-both}
 use Rattle.walk.proofs.Told.{refused-so}
 use borrow.Author.Needs.{needs}
 use Rattle.walk.proofs.step_lent.Statement.{statement}
 use Rattle.walk.proofs.step_lent.Tie as tie
 
-ask-requires : tie.Need-ask-requires
-ask-requires c κs = search needs
+rank-below-requires : tie.Need-rank-below-requires
+rank-below-requires c κs = search needs
 
 enum-told : tie.Need-enum-told
 enum-told c = search needs
@@ -17,7 +17,7 @@ enum-told-2 : tie.Need-enum-told-2
 enum-told-2 c = search needs
 
 step-numbered-requires : tie.Need-step-numbered-requires
-step-numbered-requires c κs = number-fits _ _ _ _ _ (verdict (c .before .before .before .ask .ensures) (c .before .enum-told2 .given .1))
+step-numbered-requires c κs = both-pass _ _ (verdict (c .before .before .before .rank-below .ensures) (c .before .enum-told2 .given .1))
 
 same-length : tie.Need-same-length
 same-length c = search needs
@@ -32,13 +32,13 @@ same-length-2 : tie.Need-same-length-2
 same-length-2 c = search needs
 
 returns-2 : tie.Need-returns-2
-returns-2 c = refused-so _ _ _ _ _ _ (c .missed .ensures _ _ (verdict (c .before .before .before .before .ask .ensures) (c .before .before .enum-told .given .1)))
+returns-2 c = refused-so _ _ _ _ _ _ (c .missed .ensures _ (not-both _ _ _ (verdict (c .before .before .before .before .rank-below .ensures) (c .before .before .enum-told .given .1))))
 
 pub step-lent-spec : {M : Type 1} → statement M
 step-lent-spec =
     tie.close
     (tie.spec
-    ask-requires
+    rank-below-requires
     enum-told
     enum-told-2
     step-numbered-requires

@@ -1,6 +1,6 @@
 -- `walk::step_numbered` meets its contract: the call tells, and from number 0 a step back that moved is undone.
 -- Assumes nothing.
-use mathlib.Core.Path.{_≡_, _∙_, ap}
+use mathlib.Core.Path.{_∙_, ap}
 use Rattle.listings.specs.Calls.{Said}
 use Rattle.families.specs.Answers.{steppedAs}
 use Rattle.families.proofs.Going.{not-moved}

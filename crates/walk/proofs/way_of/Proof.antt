@@ -1,6 +1,5 @@
 -- `walk::way_of` meets its contract.
 -- Assumes nothing.
-use mathlib.Core.Path.{_≡_}
 use Rattle.walk.specs.Walks.{wayOf}
 use Rattle.walk.proofs.way_of.Statement.{statement}
 use Rattle.walk.proofs.way_of.Tie as tie

@@ -1,16 +1,15 @@
 -- `walk::Walk::run` meets its contract: at every place the codes so far and the rest of the run make up the whole.
 -- Assumes nothing.
-use mathlib.Core.Path.{_≡_, refl, sym, _∙_, ap}
+use mathlib.Core.Path.{_≡_, refl, _∙_}
 use mathlib.Core.List.{map}
 use Prim.Native.Nat.{_-_}
-use native.Mathlib.Omega.{arith}
 use native.Mathlib.Numerals.{add-one}
 use lib.ListN.{length, length-set}
 use borrow.Author.Needs.{needs}
 use borrow.Author.Tests.{ltb-true, ltb-false}
 use denote.Ref.{now}
 use Rattle.families.specs.Table.{lent}
-use Rattle.walk.specs.Walks.{wayOf, runOf}
+use Rattle.walk.specs.Walks.{runOf}
 use Rattle.walk.proofs.Runs.{Left, taken, none-taken, one-more, all-taken, room-taken}
 use Rattle.walk.proofs.Walk.run.Statement.{statement}
 use Rattle.walk.proofs.Walk.run.Tie as tie

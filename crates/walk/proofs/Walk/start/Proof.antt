@@ -1,8 +1,8 @@
 -- `walk::Walk::start` meets its contract: the object in front of zeros, and RANK's answer.
 -- Assumes nothing.
-use mathlib.Core.Path.{_≡_, sym, _∙_, ap}
+use mathlib.Core.Path.{ap}
 use native.Mathlib.Omega.{arith}
-use lib.ListN.{length, length-take}
+use lib.ListN.{length-take}
 use Rattle.families.specs.Answers.{rankedAs}
 use Rattle.walk.specs.Walks.{walkAt}
 use Rattle.walk.proofs.Arrays.{object-copied, refused-start, room}
