@@ -44,9 +44,9 @@ both-pass r count e =
     let qs = always 5 (ltb count (2 ^ 64)) ∷ always 8 (ltb r count) ∷ [] in
     (ltb-true r count (passed 8 qs e), ltb-true count (2 ^ 64) (passed 5 qs e))
 
-pub not-both : (r count q : ℕ) → rankRefusal r count ≡ some q → r < count → count < 2 ^ 64 → ⊥
+not-both : (r count : ℕ) {q : ℕ} → rankRefusal r count ≡ some q → r < count → count < 2 ^ 64 → ⊥
 unfolding rankRefusal
-not-both r count q e low fits =
+not-both r count {q} e low fits =
     Option·some-ne-none q
     (sym e ∙ past (always 5 (ltb count (2 ^ 64))) (always 8 (ltb r count) ∷ []) (lt-ltb count (2 ^ 64) fits) ∙ past (always 8 (ltb r count)) [] (lt-ltb r count low) ∙ none-left)
 
@@ -69,13 +69,13 @@ module _ (f : Family) (b : Lent) (size : ℕ) (holds : Bool) where
       after-pass (opening RANK f b ++ closingFor RANK (countOf f b) (objectLength f b) size holds) (numberQuestion f b r ∷ []) e
       ∙ stop (numberQuestion f b r) [] (le-ltb r (countOf f b) high)
 
-  -- where the number isn't below a count that fits, one of RANK's questions or 8 is missed
-  pub missed-first : (r : ℕ) → (r < countOf f b → countOf f b < 2 ^ 64 → ⊥) → refusal RANK f b size holds ≡ none → stepRefusal f b size holds r ≡ some 8
+  -- where the number misses 5 or 8, and RANK none, it is 8
+  pub missed-first : (r : ℕ) {q : ℕ} → rankRefusal r (countOf f b) ≡ some q → refusal RANK f b size holds ≡ none → stepRefusal f b size holds r ≡ some 8
   unfolding asked isIn
-  missed-first r beyond e =
+  missed-first r e pass =
       elim (decLt r (countOf f b)) [
-        | yes h ↦ absurd (beyond h (fits-asked f b RANK size holds refl e))
-        | no h ↦ number-missed r e (omega arith)
+        | yes h ↦ absurd (not-both r (countOf f b) e h (fits-asked f b RANK size holds refl pass))
+        | no h ↦ number-missed r pass (omega arith)
       ]
 
   -- where the number is below a count that fits, the questions are those of the call

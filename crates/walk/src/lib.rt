@@ -11,6 +11,7 @@ ghost use Rattle.listings.specs.Bytes.{Bytes};
 ghost use Rattle.listings.specs.Calls.{Answer, Said};
 ghost use Rattle.families.specs.Table.{lent};
 ghost use Rattle.families.specs.Families.{isObject, countOf};
+ghost use Rattle.families.specs.Questions.{rankRefusal};
 ghost use Rattle.families.specs.Calls.{respond};
 ghost use Rattle.families.specs.Answers.{rankedAs, steppedAs};
 ghost use Rattle.walk.specs.declared.Walk.{Walk as WalkOf};
@@ -78,9 +79,9 @@ fn call<'a>(way: Way, f: Family, lists: Lists<'a>, object: &mut [u8]) -> Stepped
     }
 }
 
-// The first question that a step misses whose number isn't below a count that fits.
+// The first question that a step misses whose number misses 5 or 8.
 fn missed<'a>(f: Family, lists: Lists<'a>, object: &[u8]) -> u8
-    ensures { λ r. ⌜ ((number : ℕ) → (number < countOf f (lent (map now (lists .entry))) → countOf f (lent (map now (lists .entry))) < 2 ^ 64 → ⊥) → stepRefusal f (lent (map now (lists .entry))) (length (now (object .entry))) (isObject f (lent (map now (lists .entry))) (now (object .entry))) number ≡ some r) ⌝ }
+    ensures { λ r. ⌜ ((number q : ℕ) → rankRefusal number (countOf f (lent (map now (lists .entry)))) ≡ some q → stepRefusal f (lent (map now (lists .entry))) (length (now (object .entry))) (isObject f (lent (map now (lists .entry))) (now (object .entry))) number ≡ some r) ⌝ }
 {
     let Verdict::No(q) = families::ask(Call::Rank, f, lists, object) else {
         return 8;
