@@ -58,14 +58,18 @@ zeros-left (suc n) (suc m) =
     zeros-left n m ∙ ap {B = Bytes} (λ (k : ℕ). replicate k 0) one
 
 module _ (f : Family) (b : Lent) (x : Bytes) where
-  not-refused : {r : ℕ} (q : ℕ) → REFUSED q ≡ RANKED r → ⊥
-  not-refused q e = let z : _≡_ {A = ℕ} 0 1 = cc in omega arith
+  -- what RANK's number tells: no question was missed, and it is the rank
+  pub rank-told : {r : ℕ} → respond RANK f b x ≡ (RANKED r, x) → (refusal RANK f b (length x) (isObject f b x) ≡ none) × (rankOf f b x ≡ r)
+  unfolding respond act rankOf
+  rank-told {r} e =
+      let (pass, acted) = passes (refusal RANK f b (length x) (isObject f b x)) x e (λ q w. let z : _≡_ {A = ℕ} 0 1 = cc in omega arith) in
+      let rank : rankOf f b x ≡ r = cc (ap (λ (s : Said). s .0) acted) in
+      (pass, rank)
 
   starts-so : {r : ℕ} → _≡_ {A = Said} (RANKED r, x) (respond RANK f b x) → _≡_ {A = Answer × Walk} (RANKED r, walkAt f x r) (startOf f b x)
-  unfolding respond act startOf startedBy rankOf
-  starts-so {r} e =
-      let (pass, acted) = passes (refusal RANK f b (length x) (isObject f b x)) x (sym e) not-refused in
-      let rank : rankOf f b x ≡ r = cc (ap (λ (s : Said). s .0) acted) in
+  unfolding startOf startedBy
+  starts-so e =
+      let (pass, rank) = rank-told (sym e) in
       rw (pass, rank)
 
   pub object-copied : {r : ℕ} {y : Bytes} → y ≡ x → _≡_ {A = Said} (RANKED r, x) (respond RANK f b x)
@@ -84,7 +88,6 @@ module _ (f : Family) (b : Lent) (x : Bytes) where
 
   -- an object has room
   pub room : {r : ℕ} → _≡_ {A = Said} (RANKED r, x) (respond RANK f b x) → length x ≤ longestObject
-  unfolding respond
   room e =
-      let (pass, _) = passes (refusal RANK f b (length x) (isObject f b x)) x (sym e) not-refused in
+      let (pass, _) = rank-told (sym e) in
       omega (arith, asks-enough f b .sized RANK (length x) (isObject f b x) refl pass, short f b (admitted f b RANK (length x) (isObject f b x) pass))

@@ -12,7 +12,6 @@ use Rattle.numbers.specs.Limits.{longestObject}
 use Rattle.listings.specs.Bytes.{Bytes}
 use Rattle.listings.specs.Calls.{RANK, Answer, REFUSED, RANKED, Said, judged, act, responses}
 use Rattle.listings.proofs.PlaceRules.{at-below}
-use Rattle.listings.proofs.Walks.{passes}
 use Rattle.families.specs.declared.Family.{Family}
 use Rattle.families.specs.Table.{Lent}
 use Rattle.families.specs.Families.{isObject, comesBefore, listing, countOf, rankOf}
@@ -28,6 +27,7 @@ use Rattle.walk.specs.declared.Way.{Way}
 use Rattle.walk.specs.declared.Way.the-variants.{Forth, Back}
 use Rattle.walk.specs.Walks.{callOf, Kept, kept, Outcome, Handed, renumbered, stepKept, keptBy, keep, stepWalk, walkAt, startedBy, startOf, steps, walked, walkedLent, wayOf, runOf}
 use Rattle.walk.proofs.Asked.{number-passes, object-held}
+use Rattle.walk.proofs.Arrays.{rank-told}
 use Rattle.walk.proofs.Runs.{run-walks}
 use Rattle.walk.proofs.OneList.{one-list}
 use Rattle.walk.proofs.AnyWalk.{keeps, Beside, beside-object, misses, Gone, missed, ended, moved, numberless, gone, as-plain-call}
@@ -78,10 +78,8 @@ module _ (f : Family) (b : Lent) where
       }
 
   pub ranked-right : (x : Bytes) {r : ℕ} → respond RANK f b x ≡ (RANKED r, x) → Right f b (kept x r)
-  unfolding respond act rankOf
-  ranked-right x {r} e =
-      let (pass, acted) = passes (refusal RANK f b (length x) (isObject f b x)) x e (λ q w. let z : _≡_ {A = ℕ} 0 1 = cc in omega arith) in
-      let rank : rankOf f b x ≡ r = cc (ap (λ (s : Said). s .0) acted) in
+  ranked-right x e =
+      let (pass, rank) = rank-told f b x e in
       subst (λ (p : ℕ). Right f b (kept x p)) rank (passed-right x pass)
 
   -- the start

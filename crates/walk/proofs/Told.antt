@@ -111,4 +111,4 @@ undone f b x e =
 pub back-undone : (f : Family) (b : Lent) (x : Bytes) {a : Way} {s : Answer} {y : Bytes} → a ≡ Back → s ≡ STEPPED → _≡_ {A = Said} (s, y) (respond (callOf a) f b x)
     → respond (callOf Forth) f b y ≡ (STEPPED, x)
 unfolding callOf
-back-undone f b x {y = y} back st e = undone f b x (rw (st, back) at e)
+back-undone f b x back st e = undone f b x (rw (st, back) at e)
