@@ -1,7 +1,7 @@
-/* Times COUNT, NEXT, PREVIOUS, RANK and UNRANK on random objects, in the library and beside it, and a walk's steps beside NEXT or PREVIOUS followed
- * by RANK, in one run. With `count` as its argument it runs every measurement once, for callgrind to count instructions. Prints one line a
- * measurement: family, call, who, nanoseconds a call. An earlier build of the library may be linked beside today's, its functions renamed
- * (`before.h`), for the calls alone. */
+/* Times COUNT, NEXT, PREVIOUS, RANK and UNRANK on random objects, in the library and beside it, a walk's steps beside NEXT or PREVIOUS followed by
+ * RANK, and jumps beside COUNT, RANK and UNRANK, in one run. With `count` as its argument it runs every measurement once, for callgrind to count
+ * instructions. Prints one line a measurement: family, call, who, nanoseconds a call. An earlier build of the library may be linked beside today's,
+ * its functions renamed (`before.h`), for the calls alone. */
 #include "../include/arrangements.h"
 #include "before.h"
 #include "others.h"
@@ -23,10 +23,10 @@ typedef struct {
     int ranks; /* does the count fit? */
 } Family;
 
-typedef enum { COUNT, NEXT, PREVIOUS, RANK, UNRANK, WALK_NEXT, WALK_PREVIOUS } Call;
-typedef enum { LIBRARY, BEFORE, PLAIN, CPP, GSL, FRESH } Who; /* FRESH: NEXT or PREVIOUS and a fresh RANK, for a walk's step */
+typedef enum { COUNT, NEXT, PREVIOUS, RANK, UNRANK, WALK_NEXT, WALK_PREVIOUS, JUMP } Call;
+typedef enum { LIBRARY, BEFORE, PLAIN, CPP, GSL, FRESH } Who; /* FRESH: other calls in place of a walk's step or a jump */
 
-static const char *const CALLS[] = {"COUNT", "NEXT", "PREVIOUS", "RANK", "UNRANK", "WALK NEXT", "WALK PREVIOUS"};
+static const char *const CALLS[] = {"COUNT", "NEXT", "PREVIOUS", "RANK", "UNRANK", "WALK NEXT", "WALK PREVIOUS", "JUMP"};
 static const char *const WHO[] = {"library", "before", "plain", "c++", "gsl", "fresh"};
 
 enum { MOST = 5 }; /* how many can be measured beside each other */
@@ -34,6 +34,7 @@ enum { MOST = 5 }; /* how many can be measured beside each other */
 static uint8_t pool[POOL][PLACES];
 static uint64_t ranks[POOL];   /* what UNRANK is asked for */
 static uint64_t numbers[POOL]; /* the rank of each object, where the count fits */
+static int64_t distances[POOL]; /* how far each jumps, then */
 static arrangement_family family; /* what is measured, as the library takes it */
 static arrangement_lists lists;
 static volatile uint64_t sink;
@@ -110,6 +111,13 @@ static void costly(const Family *f, uint8_t *x) {
         }
 }
 
+/* How far it is from one rank to another; half as far where that is no signed number. */
+static int64_t distance(uint64_t from, uint64_t to) {
+    uint64_t places = to > from ? to - from : from - to;
+    if (places > INT64_MAX) places /= 2;
+    return to > from ? (int64_t)places : -(int64_t)places;
+}
+
 static void fill_pool(const Family *f) {
     uint64_t count = 0;
     family = arrangement_family_of(f->kind, f->n, f->k);
@@ -124,6 +132,7 @@ static void fill_pool(const Family *f) {
         else if (f->kind == 5) plain_unrank(5, f->n, f->k, f->counts, 0, ranks[i], pool[i], f->len);
         else random_dyck(f, pool[i]);
         if (f->ranks) plain_rank(f->kind, f->n, f->k, f->counts, f->letters, pool[i], f->len, &numbers[i]);
+        distances[i] = distance(numbers[i], ranks[i]);
         gsl_take(i, pool[i], f->len);
     }
 }
@@ -139,13 +148,27 @@ __attribute__((noinline)) static uint64_t walk_step(Who who, Call c, const Famil
     return number + code;
 }
 
+/* A jump, or in its place COUNT, RANK and UNRANK of the rank that far away. Not inlined either. */
+__attribute__((noinline)) static uint64_t jump(Who who, const Family *f, int64_t d, uint8_t *x) {
+    uint64_t count = 0, rank = 0, to;
+    uint32_t code;
+    if (who == LIBRARY) return arrangement_jump(family, &lists, d, x, f->len);
+    if (who == PLAIN) {
+        code = plain_rank(f->kind, f->n, f->k, f->counts, f->letters, x, f->len, &rank);
+        return code + plain_unrank(f->kind, f->n, f->k, f->counts, f->letters, rank + (uint64_t)d, x, f->len);
+    }
+    code = arrangement_count(family, &lists, &count) + arrangement_rank(family, &lists, x, f->len, &rank);
+    to = rank + (uint64_t)d;
+    return code + (to < count ? arrangement_unrank(to, family, &lists, x, f->len) : ARRANGEMENT_END);
+}
+
 /* One call on one object of the pool. The bytes are copied first, for everybody. */
 static uint64_t call(Who who, Call c, const Family *f, int i, uint8_t *x) {
     uint64_t value = 0;
     uint32_t code = 0;
     const uint8_t *counts = f->counts;
     memcpy(x, pool[i], PLACES);
-    if (c == WALK_NEXT || c == WALK_PREVIOUS) return walk_step(who, c, f, numbers[i], x);
+    if (c > UNRANK) return c == JUMP ? jump(who, f, distances[i], x) : walk_step(who, c, f, numbers[i], x);
     if (who == LIBRARY) switch (c) {
         case COUNT: code = arrangement_count(family, &lists, &value); break;
         case NEXT: code = arrangement_next(family, &lists, x, f->len); break;
@@ -292,9 +315,10 @@ static const Family GROWTH[] = {
     {"6 Dyck words 40", "costly", 6, 40, 0, {0}, 0, 80, 0},
 };
 
-static void walk_steps(const Family *f, int counting) {
+static void steps_and_jumps(const Family *f, int counting) {
     static const Who who[] = {LIBRARY, FRESH};
-    for (Call c = WALK_NEXT; c <= WALK_PREVIOUS; c++) {
+    agree(f, JUMP, PLAIN);
+    for (Call c = WALK_NEXT; c <= JUMP; c++) {
         agree(f, c, FRESH);
         measure(who, 2, c, f, counting);
     }
@@ -317,7 +341,7 @@ static void all_calls(const Family *f, int counting) {
 #endif
         measure(who, number, c, f, counting);
     }
-    if (f->ranks) walk_steps(f, counting);
+    if (f->ranks) steps_and_jumps(f, counting);
 }
 
 int main(int argc, char **argv) {

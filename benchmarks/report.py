@@ -63,7 +63,7 @@ def comparison():
 
 
 def growth():
-    shown = (*calls[1:], *walks)
+    shown = (*calls[1:], *walks, "JUMP")
     say(f"| family, the object that costs most | {' | '.join(shown)} |", "|---" + "|---:" * len(shown) + "|")
     for family, pool in families:
         if pool == "costly":
@@ -95,6 +95,30 @@ def walk_targets(family, least):
         f"{min(r[1] for r in there):.2f} by instructions; on no kind slower: least {by_time[0]:.2f} by time ({by_time[2]}), "
         f"{by_count[1]:.2f} by instructions ({by_count[2]}).")
     say(*[f"  - missed: {r[2]} ({r[0]:.2f} by time, {r[1]:.2f} by instructions)" for r in rows if r[0] < r[3]])
+
+
+def jump_rows():
+    """Of each family: its name, a jump's time and that of COUNT, RANK and UNRANK, its instructions and theirs."""
+    for family, pool in families:
+        at = (family, pool, "JUMP")
+        if (*at, "library") in times and pool == "random":
+            yield family, times[(*at, "library")], times[(*at, "fresh")], counts[(*at, "library")], counts[(*at, "fresh")]
+
+
+def jump_table():
+    say("| family | jump, ns | COUNT, RANK and UNRANK, ns | ratio | jump's instructions | theirs | ratio | RANK's and UNRANK's alone | ratio |",
+        "|---|---:|---:|---:|---:|---:|---:|---:|---:|")
+    for family, jump, fresh, a, b in jump_rows():
+        two = sum(counts[(family, "random", c, "library")] for c in ("RANK", "UNRANK"))
+        say(f"| {family} | {ns(jump)} | {ns(fresh)} | {ratio(jump, fresh)} | {ns(a)} | {ns(b)} | {ratio(a, b)} | {ns(two)} | {ratio(a, two)} |")
+
+
+def jump_targets(limit):
+    rows = [(jump / fresh, a / b, family) for family, jump, fresh, a, b in jump_rows()]
+    by_time, by_count = max(rows), max(rows, key=lambda r: r[1])
+    say(f"- A jump at most {limit} times COUNT, RANK and UNRANK together: largest {by_time[0]:.2f} by time ({by_time[2]}), "
+        f"{by_count[1]:.2f} by instructions ({by_count[2]}).")
+    say(*[f"  - missed: {r[2]} ({r[0]:.2f} by time, {r[1]:.2f} by instructions)" for r in rows if max(r[:2]) > limit])
 
 
 def worst(group, limit):
@@ -135,6 +159,7 @@ def targets():
         say(f"- RANK and UNRANK at least 100 times faster than interpreted: least {min(slow)[0]:,.0f} ({min(slow)[1]}).")
         say(*[f"  - missed: {what} ({times_faster:,.0f})" for times_faster, what in slow if times_faster < 100])
     walk_targets("6 Dyck words 36", 2.2)
+    jump_targets(1.3)
 
 
 say("# Benchmarks", "", f"Written by `benchmarks/run` on {datetime.date.today()}: {shell('lscpu | sed -n s/^Model.name:[[:space:]]*//p')}, {shell('gcc --version | head -1')}, -O2.", "")
@@ -159,13 +184,20 @@ say("", "Why, by the profile:", "",
     "  call: that alone is most of the time, and what keeps COUNT behind GAP's Binomial.",
     "- A walk's step is NEXT or PREVIOUS and some 200 instructions for the questions and the count. The count of anagrams, a product, takes up to 730; that of",
     "  set partitions above 26 models, a row of Stirling numbers, up to 2,350, so that these gain least among the large families.",
-    "- With walks in the library, NEXT, PREVIOUS and the comparison of a rank with the count have two callers each, and the compiler makes functions of",
-    "  them that it put into their only caller before: NEXT and PREVIOUS take up to 29 instructions more than before, RANK and UNRANK up to 19.")
+    "- A jump is RANK, a sum and UNRANK, which puts its questions over again, and no COUNT. So it gains most where COUNT is dear: subsets, and set",
+    "  partitions above 26 models.",
+    "- With walks in the library NEXT, PREVIOUS and the comparison of a rank with the count have two callers each, with jumps RANK and UNRANK too, and the",
+    "  compiler makes functions of them that it put into their only caller before. For walks NEXT and PREVIOUS take up to 29 instructions more, RANK and",
+    "  UNRANK up to 19; for jumps RANK takes up to 40 more and UNRANK up to 24, that of integer partitions up to 191: at most 4 percent.")
 say("", "## Growth", "", "Instructions of the library for a call on one object, at doubled lengths.", "")
 growth()
 say("", "## Walks", "",
     "A walk's step, with the object's own number, beside NEXT or PREVIOUS followed by RANK, on the same 256 objects of each family whose count is below 2^64;",
     "the two must agree on code, bytes and number first.", "")
 walk_table()
+say("", "## Jumps", "",
+    "A jump from each of the 256 objects to one of random rank, beside COUNT, RANK and UNRANK of that rank, for each family whose count is below 2^64;",
+    "the two, and plain C's RANK and UNRANK, must agree on code and bytes first. Of ranks that are 2^63 or more apart, half the distance is jumped.", "")
+jump_table()
 say("", "## All calls", "")
 comparison()

@@ -1,4 +1,4 @@
-/* Arrangement numbers: the seven calls on families of combinatorial objects, the length of an object, and walks that know their number.
+/* Arrangement numbers: the seven calls on families of combinatorial objects, the length of an object, jumps, and walks that know their number.
  *
  * Build the library with `rt staticlib arrangements` and link target/staticlib/libarrangements.a.
  * docs/SCOPE.md says what families, orders, calls and questions are, docs/PROMISES.md what is proved.
@@ -30,16 +30,16 @@ extern "C" {
 #endif
 
 #define ARRANGEMENT_DONE 0u  /* answered, written or stepped */
-#define ARRANGEMENT_END 100u /* none follows (NEXT) or precedes (PREVIOUS) */
+#define ARRANGEMENT_END 100u /* none follows (NEXT), precedes (PREVIOUS) or stands there (a jump) */
 
 /* Refusals, by the number of the first question that is answered by no; in brackets the calls to which it is put, if not to all. */
 #define ARRANGEMENT_REFUSED_KIND 1u          /* is the kind 1 to 6? */
 #define ARRANGEMENT_REFUSED_BOUNDS 2u        /* are n and k within the table above? */
 #define ARRANGEMENT_REFUSED_LETTER_COUNTS 3u /* for kind 2, is the count list n long with a sum of at most 80; is it empty for other kinds? */
 #define ARRANGEMENT_REFUSED_NO_OBJECTS 4u    /* has the family an object? (all but COUNT, which answers 0) */
-#define ARRANGEMENT_REFUSED_OVERFLOW 5u      /* is the count below 2^64? (COUNT, RANK, UNRANK, a walk's steps) */
+#define ARRANGEMENT_REFUSED_OVERFLOW 5u      /* is the count below 2^64? (COUNT, RANK, UNRANK, jumps, a walk's steps) */
 #define ARRANGEMENT_REFUSED_LENGTH 6u        /* has the buffer the object's length? (all but COUNT) */
-#define ARRANGEMENT_REFUSED_NOT_AN_OBJECT 7u /* does it hold an object of the family? (RANK, NEXT, PREVIOUS, a walk's steps) */
+#define ARRANGEMENT_REFUSED_NOT_AN_OBJECT 7u /* does it hold an object of the family? (RANK, NEXT, PREVIOUS, jumps, a walk's steps) */
 #define ARRANGEMENT_REFUSED_RANK 8u          /* is the rank below the count? (UNRANK; a walk's steps, of *number) */
 
 /* A family is passed by value. Make one by arrangement_family_of: later fields then have their defaults. */
@@ -95,6 +95,11 @@ uint32_t arrangement_rank(arrangement_family f, const arrangement_lists *lists, 
 
 /* UNRANK: writes the object that has `rank` objects before it. */
 uint32_t arrangement_unrank(uint64_t rank, arrangement_family f, const arrangement_lists *lists, uint8_t *object, size_t object_len);
+
+/* A jump by d: replaces the object, of rank r, by the one of rank r + d where r + d lies from 0 to the count less one; else it answers ARRANGEMENT_END
+ * and changes nothing. It puts RANK's questions. Any d is answered, INT64_MIN too; d = 0 writes the same object and isn't ARRANGEMENT_END.
+ * After a jump by d that was done, one by -d restores the bytes; INT64_MIN has no -d. */
+uint32_t arrangement_jump(arrangement_family f, const arrangement_lists *lists, int64_t d, uint8_t *object, size_t object_len);
 
 /* A walk: an object, and the number kept of it. It starts at any object, with the *number that arrangement_rank writes for it. A step puts RANK's
  * questions, and question 8 to *number; then it steps as NEXT or PREVIOUS does, and adds one to *number or takes one off: after any steps *number is

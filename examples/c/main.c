@@ -1,4 +1,4 @@
-/* A number for an arrangement, the arrangement for a number, one step on and back, a walk. Build and run: examples/c/run */
+/* A number for an arrangement, the arrangement for a number, one step on and back, a walk, jumps. Build and run: examples/c/run */
 #include <inttypes.h>
 #include <stdio.h>
 #include <string.h>
@@ -11,6 +11,21 @@ static void show(const char *what, const uint8_t *object, size_t len)
     for (size_t i = 0; i < len; i++)
         printf(" %d", object[i]);
     printf("\n");
+}
+
+/* Jumps: 100 places on, as many back, and off the listing, which is END; 0, or 1 where an answer is another. */
+static int jumps(arrangement_family trees, const arrangement_lists *lists, uint8_t *tree)
+{
+    if (arrangement_jump(trees, lists, 100, tree, 7) != ARRANGEMENT_DONE)
+        return 1;
+    show("a jump 100 places on", tree, 7);
+    if (arrangement_jump(trees, lists, -100, tree, 7) != ARRANGEMENT_DONE)
+        return 1;
+    show("and 100 back", tree, 7);
+    if (arrangement_jump(trees, lists, INT64_MIN, tree, 7) != ARRANGEMENT_END)
+        return 1;
+    show("too far back: END, and it stays", tree, 7);
+    return 0;
 }
 
 int main(void)
@@ -52,6 +67,9 @@ int main(void)
         snprintf(what, sizeof what, "a walk, at number %" PRIu64, number);
         show(what, tree, 7);
     }
+
+    if (jumps(trees, &lists, tree) != 0)
+        return 1;
 
     /* A number that no arrangement has is refused by its question, 8, and the tree stays. */
     uint32_t code = arrangement_unrank(all, trees, &lists, tree, 7);

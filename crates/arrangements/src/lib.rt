@@ -9,6 +9,7 @@ ghost use Rattle.families.specs.Calls.{respond, measured};
 ghost use Rattle.families.specs.Codes.{Coded};
 ghost use Rattle.walk.specs.declared.Way.the-variants.{Forth, Back};
 ghost use Rattle.walk.specs.Walks.{kept, stepKept};
+ghost use Rattle.jump.specs.Jumps.{jump as jumpOf};
 ghost use Rattle.arrangements.specs.Told.{plain as plainly, told, Valued, valued, CodedStep, toldStep};
 use families::Counted;
 use families::Family;
@@ -114,6 +115,13 @@ pub extern "C" fn arrangement_unrank(rank: u64, f: Family, lists: &Lists, object
     ensures { λ r. ⌜ _≡_ {A = Coded} (r, now (object .exit)) (told (respond (UNRANK rank) f (lent (map now (now (lists .entry)))) (now (object .entry)))) ⌝ }
 {
     plain(codes::written(families::unrank(rank, f, by_value(lists), object)))
+}
+
+#[no_mangle]
+pub extern "C" fn arrangement_jump(f: Family, lists: &Lists, d: i64, object: &mut [u8]) -> u32
+    ensures { λ r. ⌜ _≡_ {A = Coded} (r, now (object .exit)) (told (jumpOf f (lent (map now (now (lists .entry)))) d (now (object .entry)))) ⌝ }
+{
+    plain(jump::code(jump::jump(f, by_value(lists), d, object)))
 }
 
 // A step of a walk on lent bytes and the lent number kept of them.

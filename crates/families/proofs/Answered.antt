@@ -109,6 +109,14 @@ module _ (f : Family) (b : Lent) where
   pub opens-for : (x : Bytes) → isObject f b x ≡ true → firstNo (opening FIRST f b) ≡ none
   opens-for x o = opens f b (object-allowed f b x o) (omega (arith, below x o))
 
+  -- what RANK's number tells: no question was missed, and it is the rank
+  pub rank-told : (x : Bytes) {r : ℕ} → respond RANK f b x ≡ (RANKED r, x) → (refusal RANK f b (length x) (isObject f b x) ≡ none) × (rankOf f b x ≡ r)
+  unfolding respond act rankOf
+  rank-told x {r} e =
+      let (pass, acted) = passes (refusal RANK f b (length x) (isObject f b x)) x e (λ q w. let z : _≡_ {A = ℕ} 0 1 = cc in omega arith) in
+      let rank : rankOf f b x ≡ r = cc (ap (λ (s : Said). s .0) acted) in
+      (pass, rank)
+
   pub rank-answers : (x : Bytes) → isObject f b x ≡ true → countOf f b < 2 ^ 64 → respond RANK f b x ≡ (RANKED (rankOf f b x), x)
   unfolding act rankOf
   rank-answers x o fits = carried-out RANK x (rw o (rank-passes f b (length x) (opens-for x o) fits (lawful f b .long x o)))

@@ -7,7 +7,7 @@ use mathlib.Core.List.{[], _∷_, _++_}
 use Prim.Native.Nat.{ℕ, _<_, _^_}
 use native.Mathlib.Omega.{arith}
 use lib.Dec.{ltb}
-use borrow.Author.Tests.{not-true, not-false, ltb-true}
+use borrow.Author.Tests.{not-true, not-false, lt-ltb, ltb-true}
 use Rattle.listings.specs.Calls.{Call, FIRST, LAST, NEXT, PREVIOUS, RANK, UNRANK, Question, orElse, firstNo}
 use Rattle.listings.proofs.Demand.{Asks}
 use Rattle.families.specs.declared.Family.{Family}
@@ -141,6 +141,15 @@ module _ (f : Family) (b : Lent) where
   pub rank-passes : (size : ℕ) → firstNo (opening FIRST f b) ≡ none → countOf f b < 2 ^ 64 → size ≡ objectLength f b → refusal RANK f b size true ≡ none
   unfolding asked isIn
   rank-passes size e fits h = passes RANK size true refl e (λ w. fits) h (λ w. refl) (λ w. absurd (false≢true w))
+
+  -- where the count fits, a step is asked what RANK is
+
+  pub next-as-rank : (size : ℕ) (holds : Bool) → countOf f b < 2 ^ 64 → refusal RANK f b size holds ≡ refusal NEXT f b size holds
+  unfolding refusal opening closingFor put asked isIn
+  next-as-rank size holds fits = rw (lt-ltb (countOf f b) (2 ^ 64) fits)
+
+  pub previous-as-rank : (size : ℕ) (holds : Bool) → countOf f b < 2 ^ 64 → refusal RANK f b size holds ≡ refusal PREVIOUS f b size holds
+  previous-as-rank size holds fits = next-as-rank size holds fits ∙ asks-enough .alike size holds
 
   pub unrank-passes : (r size : ℕ) (holds : Bool) → firstNo (opening FIRST f b) ≡ none → countOf f b < 2 ^ 64 → size ≡ objectLength f b → r < countOf f b → refusal (UNRANK r) f b size holds ≡ none
   unfolding asked isIn rankGiven

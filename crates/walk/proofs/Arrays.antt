@@ -9,16 +9,14 @@ use lib.ListN.{length, take, drop, replicate, take-append-drop}
 use lib.Seq.{length-take-le}
 use Rattle.numbers.specs.Limits.{longestObject}
 use Rattle.listings.specs.Bytes.{Bytes}
-use Rattle.listings.specs.Calls.{RANK, Answer, REFUSED, RANKED, Said, act}
-use Rattle.listings.proofs.Walks.{passes}
+use Rattle.listings.specs.Calls.{RANK, Answer, REFUSED, RANKED, Said}
 use Rattle.families.specs.declared.Family.{Family}
 use Rattle.families.specs.Table.{Lent}
-use Rattle.families.specs.Families.{isObject, rankOf}
-use Rattle.families.specs.Questions.{refusal}
+use Rattle.families.specs.Families.{isObject}
 use Rattle.families.specs.Calls.{respond}
 use Rattle.families.proofs.FamilyFacts.{short}
 use Rattle.families.proofs.Verdicts.{admitted, asks-enough}
-use Rattle.families.proofs.Answered.{missed-where-refused}
+use Rattle.families.proofs.Answered.{rank-told, missed-where-refused}
 use Rattle.walk.specs.declared.Walk.{Walk}
 use Rattle.walk.specs.declared.Way.{Way}
 use Rattle.walk.specs.Walks.{kept, Outcome, stepRefusal, stepKept, keptBy, keep, stepWalk, walkAt, startedBy, startOf}
@@ -58,18 +56,10 @@ zeros-left (suc n) (suc m) =
     zeros-left n m ∙ ap {B = Bytes} (λ (k : ℕ). replicate k 0) one
 
 module _ (f : Family) (b : Lent) (x : Bytes) where
-  -- what RANK's number tells: no question was missed, and it is the rank
-  pub rank-told : {r : ℕ} → respond RANK f b x ≡ (RANKED r, x) → (refusal RANK f b (length x) (isObject f b x) ≡ none) × (rankOf f b x ≡ r)
-  unfolding respond act rankOf
-  rank-told {r} e =
-      let (pass, acted) = passes (refusal RANK f b (length x) (isObject f b x)) x e (λ q w. let z : _≡_ {A = ℕ} 0 1 = cc in omega arith) in
-      let rank : rankOf f b x ≡ r = cc (ap (λ (s : Said). s .0) acted) in
-      (pass, rank)
-
   starts-so : {r : ℕ} → _≡_ {A = Said} (RANKED r, x) (respond RANK f b x) → _≡_ {A = Answer × Walk} (RANKED r, walkAt f x r) (startOf f b x)
   unfolding startOf startedBy
   starts-so e =
-      let (pass, rank) = rank-told (sym e) in
+      let (pass, rank) = rank-told f b x (sym e) in
       rw (pass, rank)
 
   pub object-copied : {r : ℕ} {y : Bytes} → y ≡ x → _≡_ {A = Said} (RANKED r, x) (respond RANK f b x)
@@ -89,5 +79,5 @@ module _ (f : Family) (b : Lent) (x : Bytes) where
   -- an object has room
   pub room : {r : ℕ} → _≡_ {A = Said} (RANKED r, x) (respond RANK f b x) → length x ≤ longestObject
   room e =
-      let (pass, _) = rank-told (sym e) in
+      let (pass, _) = rank-told f b x (sym e) in
       omega (arith, asks-enough f b .sized RANK (length x) (isObject f b x) refl pass, short f b (admitted f b RANK (length x) (isObject f b x) pass))

@@ -10,14 +10,14 @@ use native.Mathlib.Decide.{decLt}
 use lib.Dec.{ltb, eqb}
 use borrow.Author.Tests.{lt-ltb, le-ltb, ltb-true, ne-eqb}
 use Rattle.numbers.specs.Limits.{longestObject}
-use Rattle.listings.specs.Calls.{NEXT, PREVIOUS, RANK, Question, orElse, firstNo}
+use Rattle.listings.specs.Calls.{RANK, Question, orElse, firstNo}
 use Rattle.families.specs.declared.Family.{Family}
 use Rattle.families.specs.Table.{Lent}
 use Rattle.families.specs.Families.{always, objectLength, countOf}
 use Rattle.families.specs.Questions.{asked, isIn, put, opening, closingFor, refusal, rankRefusal}
 use Rattle.families.proofs.QuestionLaws.{past, stop, none-left, passed, after-pass, after-no, left-passes, right-passes}
 use Rattle.families.proofs.FamilyFacts.{short}
-use Rattle.families.proofs.Verdicts.{opened, some-object, asks-enough, fits-asked, opens-alike}
+use Rattle.families.proofs.Verdicts.{opened, some-object, asks-enough, fits-asked, next-as-rank, previous-as-rank}
 use Rattle.walk.specs.declared.Way.{Way}
 use Rattle.walk.specs.declared.Way.the-variants.{Forth, Back}
 use Rattle.walk.specs.Walks.{callOf, numberQuestion, stepRefusal}
@@ -80,19 +80,10 @@ module _ (f : Family) (b : Lent) (size : ℕ) (holds : Bool) where
 
   -- where the number is below a count that fits, the questions are those of the call
 
-  opens-so : (a : Way) → opening (callOf a) f b ≡ opening RANK f b
-  unfolding callOf asked isIn
-  opens-so Forth = opens-alike f b NEXT refl ∙ sym (opens-alike f b RANK refl)
-  opens-so Back = opens-alike f b PREVIOUS refl ∙ sym (opens-alike f b RANK refl)
-
-  closes-so : (a : Way) → countOf f b < 2 ^ 64 → closingFor RANK (countOf f b) (objectLength f b) size holds ≡ closingFor (callOf a) (countOf f b) (objectLength f b) size holds
-  unfolding callOf closingFor put asked isIn
-  closes-so Forth fits = rw (lt-ltb (countOf f b) (2 ^ 64) fits)
-  closes-so Back fits = rw (lt-ltb (countOf f b) (2 ^ 64) fits)
-
   pub as-the-call : (a : Way) (r : ℕ) → r < countOf f b → countOf f b < 2 ^ 64 → stepRefusal f b size holds r ≡ refusal (callOf a) f b size holds
-  unfolding refusal
-  as-the-call a r low fits = number-passes r low ∙ rw (opens-so a, closes-so a fits)
+  unfolding callOf
+  as-the-call Forth r low fits = number-passes r low ∙ next-as-rank f b size holds fits
+  as-the-call Back r low fits = number-passes r low ∙ previous-as-rank f b size holds fits
 
   -- what a step that passes was asked
   module _ (r : ℕ) (pass : stepRefusal f b size holds r ≡ none) where

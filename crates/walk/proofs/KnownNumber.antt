@@ -20,14 +20,13 @@ use Rattle.families.specs.Calls.{respond, run}
 use Rattle.families.specs.Marker.{marker}
 use Rattle.families.proofs.FamilyFacts.{lawful, rank-is-place}
 use Rattle.families.proofs.Verdicts.{asks-enough, fits-asked, rank-passes}
-use Rattle.families.proofs.Answered.{object-at-rank, opens-for, rank-answers}
+use Rattle.families.proofs.Answered.{object-at-rank, opens-for, rank-told, rank-answers}
 use Rattle.families.proofs.Demand.{calls-are-the-marker}
 use Rattle.walk.specs.declared.Walk.{Walk}
 use Rattle.walk.specs.declared.Way.{Way}
 use Rattle.walk.specs.declared.Way.the-variants.{Forth, Back}
 use Rattle.walk.specs.Walks.{callOf, Kept, kept, Outcome, Handed, renumbered, stepKept, keptBy, keep, stepWalk, walkAt, startedBy, startOf, steps, walked, walkedLent, wayOf, runOf}
 use Rattle.walk.proofs.Asked.{number-passes, object-held}
-use Rattle.walk.proofs.Arrays.{rank-told}
 use Rattle.walk.proofs.Runs.{run-walks}
 use Rattle.walk.proofs.OneList.{one-list}
 use Rattle.walk.proofs.AnyWalk.{keeps, Beside, beside-object, misses, Gone, missed, ended, moved, numberless, gone, as-plain-call}

@@ -39,6 +39,7 @@ extern "C" {
     fn arrangement_previous(f: Family, lists: *const CLists, object: *mut u8, object_len: usize) -> c_uint;
     fn arrangement_rank(f: Family, lists: *const CLists, object: *const u8, object_len: usize, value: *mut u64) -> c_uint;
     fn arrangement_unrank(rank: u64, f: Family, lists: *const CLists, object: *mut u8, object_len: usize) -> c_uint;
+    fn arrangement_jump(f: Family, lists: *const CLists, d: i64, object: *mut u8, object_len: usize) -> c_uint;
     fn arrangement_walk_next(f: Family, lists: *const CLists, object: *mut u8, object_len: usize, number: *mut u64) -> c_uint;
     fn arrangement_walk_previous(f: Family, lists: *const CLists, object: *mut u8, object_len: usize, number: *mut u64) -> c_uint;
 }
@@ -55,7 +56,7 @@ pub type Code = u32;
 
 /// Answered, written or stepped.
 pub const DONE: Code = 0;
-/// None follows or precedes.
+/// None follows, precedes or stands there.
 pub const END: Code = 100;
 
 // Refusals, by the number of the first question that is answered by no.
@@ -112,6 +113,11 @@ impl Arrangements {
     pub fn unrank(&self, rank: u64, object: &mut [u8]) -> Code {
         let (f, lists) = self.parts();
         unsafe { arrangement_unrank(rank, f, &lists, object.as_mut_ptr(), object.len()) }
+    }
+
+    pub fn jump(&self, d: i64, object: &mut [u8]) -> Code {
+        let (f, lists) = self.parts();
+        unsafe { arrangement_jump(f, &lists, d, object.as_mut_ptr(), object.len()) }
     }
 
     pub fn walk_next(&self, object: &mut [u8], number: &mut u64) -> Code {

@@ -1,6 +1,19 @@
-//! A number for an arrangement, the arrangement for a number, one step on and back, a walk. Build and run: examples/rust/run
+//! A number for an arrangement, the arrangement for a number, one step on and back, a walk, jumps. Build and run: examples/rust/run
 
 use arrangements_example::{Arrangements, Family, DONE, END, REFUSED_RANK};
+
+/// Jumps: 100 places back, as many on, and off the listing, which is END.
+fn jumps(plans: &Arrangements, plan: &mut [u8]) {
+    let start = plan.to_vec();
+    for d in [-100, 100] {
+        assert_eq!(plans.jump(d, plan), DONE);
+        println!("a jump by {d:<4}            {plan:?}");
+    }
+    assert_eq!(plan, start);
+    assert_eq!(plans.jump(i64::MAX, plan), END);
+    assert_eq!(plan, start);
+    println!("too far on: END, and the plan stays");
+}
 
 fn main() {
     // Fourteen bytes of a plan with seven branches.
@@ -26,6 +39,8 @@ fn main() {
         assert_eq!(if on { plans.walk_next(&mut plan, &mut number) } else { plans.walk_previous(&mut plan, &mut number) }, DONE);
         println!("a walk, at number {number}     {plan:?}");
     }
+
+    jumps(&plans, &mut plan);
 
     assert_eq!(plans.last(&mut plan), DONE);
     let last = plan;

@@ -1,10 +1,10 @@
 //! Random calls of all kinds, valid and damaged, small and at 80 places and at both edges of 2^64, on the library and on the reference; then
-//! walks, started or made up. The first difference is printed and ends the run with status 1.
+//! walks, started or made up, and jumps there and back. The first difference is printed and ends the run with status 1.
 
 mod reference;
 
 use arrangements_example::{Arrangements, Family};
-use reference::{refusal, stride, Kind, Tables, LARGE};
+use reference::{leap, refusal, stride, Kind, Tables, LARGE};
 use std::cmp::Ordering;
 
 struct Random(u64);
@@ -112,8 +112,9 @@ fn buffer(r: &mut Random, t: &Tables, f: &Kind, usable: bool) -> Vec<u8> {
     x
 }
 
-fn describe(f: &Kind, call: &str, rank: u64, x: &[u8]) -> String {
-    format!("{call} on kind {} n {} k {} counts {:?} rank {rank} bytes {x:?}", f.kind, f.n, f.k, f.counts)
+/// A call in words; its number is a rank, what a walk keeps, or how far a jump goes.
+fn describe(f: &Kind, call: &str, number: i128, x: &[u8]) -> String {
+    format!("{call} on kind {} n {} k {} counts {:?} number {number} bytes {x:?}", f.kind, f.n, f.k, f.counts)
 }
 
 /// Is y just after x? y is a larger object, and its rank is one more; in a family whose ranks the reference cannot tell, among the objects that
@@ -165,17 +166,33 @@ fn other_lists(r: &mut Random, f: &Kind) -> Kind {
     g
 }
 
-/// What the steps of all walks came to.
+/// What the steps of all walks, or all jumps, came to.
 #[derive(Default)]
-struct Steps {
+struct Outcomes {
     moved: u64,
     ended: u64,
     refused: u64,
 }
 
+impl Outcomes {
+    fn add(&mut self, code: u32) {
+        match code {
+            0 => self.moved += 1,
+            100 => self.ended += 1,
+            _ => self.refused += 1,
+        }
+    }
+}
+
+impl std::fmt::Display for Outcomes {
+    fn fmt(&self, out: &mut std::fmt::Formatter) -> std::fmt::Result {
+        write!(out, "{} moved, {} heard END and {} were refused", self.moved, self.ended, self.refused)
+    }
+}
+
 /// A walk of up to 12 steps, started by RANK or made up, mostly in a family that has walks; a step in ten is handed other lists, and half
 /// of the steps that don't move end the walk. Where it was started, its number must be the reference's rank after every step, too.
-fn walk(r: &mut Random, t: &Tables, steps: &mut Steps) -> Result<(), String> {
+fn walk(r: &mut Random, t: &Tables, steps: &mut Outcomes) -> Result<(), String> {
     let mut f = family(r);
     while r.below(8) > 0 && !(usable(t, &f) && f.count(t) < 1 << 64) {
         f = family(r);
@@ -191,20 +208,73 @@ fn walk(r: &mut Random, t: &Tables, steps: &mut Steps) -> Result<(), String> {
         let code = if on { library(&g).walk_next(&mut y, &mut after) } else { library(&g).walk_previous(&mut y, &mut after) };
         let expected = stride(t, &g, on, &x, number);
         if (code, &y, after) != (expected.0, &expected.1, expected.2) || started && f.rank(t, &y) != after as u128 {
-            let step = describe(&g, if on { "WALK NEXT" } else { "WALK PREVIOUS" }, number, &x);
+            let step = describe(&g, if on { "WALK NEXT" } else { "WALK PREVIOUS" }, number as i128, &x);
             return Err(format!("{step}\nthe library answered {code} with number {after} and bytes {y:?}; expected {expected:?}"));
         }
-        match code {
-            0 => steps.moved += 1,
-            100 => steps.ended += 1,
-            _ => steps.refused += 1,
-        }
+        steps.add(code);
         if code != 0 && r.below(2) == 0 {
             break;
         }
         (x, number) = (y, after);
     }
     Ok(())
+}
+
+/// How far to jump from x: 0, little or much, to both ends of the listing and of 64 bits, to any object, or anywhere.
+fn distance(r: &mut Random, t: &Tables, f: &Kind, x: &[u8]) -> i64 {
+    let count = if usable(t, f) { f.count(t).min(1 << 64) as i128 } else { 100 };
+    let at = if refusal(t, f, "RANK", x, 0) == 0 { f.rank(t, x) as i128 } else { 0 };
+    let little = r.below(7) as i128 - 3;
+    let d = match r.below(10) {
+        0 => 0,
+        1 => little,
+        2 => r.below(2001) as i128 - 1000,
+        3 => little - at,
+        4 => little + count - at,
+        5 => i64::MIN as i128 + r.below(3) as i128,
+        6 => i64::MAX as i128 - r.below(3) as i128,
+        7 => r.next() as i64 as i128,
+        _ => r.next() as i128 % count - at,
+    };
+    d.clamp(i64::MIN as i128, i64::MAX as i128) as i64
+}
+
+/// A jump, seven times in eight in a family of that kind that has ranks; where it lands and -d is a number, then the jump back.
+fn jump(r: &mut Random, t: &Tables, kind: u64, outcomes: &mut Outcomes) -> Result<(), String> {
+    let (mut f, any) = (family(r), r.below(8) == 0);
+    while !any && !(f.kind == kind && usable(t, &f) && f.count(t) < 1 << 64) {
+        f = family(r);
+    }
+    let x = buffer(r, t, &f, usable(t, &f));
+    let d = distance(r, t, &f, &x);
+    let mut y = x.clone();
+    let code = library(&f).jump(d, &mut y);
+    let expected = leap(t, &f, d, &x);
+    if (code, &y) != (expected.0, &expected.1) {
+        let what = describe(&f, "JUMP", d as i128, &x);
+        return Err(format!("{what}\nthe library answered {code} with bytes {y:?}; expected {expected:?}"));
+    }
+    outcomes.add(code);
+    if code != 0 || d == i64::MIN {
+        return Ok(());
+    }
+    let mut z = y.clone();
+    let back = library(&f).jump(-d, &mut z);
+    if (back, &z) != (0, &x) {
+        let what = describe(&f, "JUMP BACK", -d as i128, &y);
+        return Err(format!("{what}\nthe library answered {back} with bytes {z:?}; expected {:?}", (0, x)));
+    }
+    Ok(())
+}
+
+/// Makes so many of them; the first that differs is printed and ends the run.
+fn each_agrees(what: &str, times: u64, mut one: impl FnMut(u64) -> Result<(), String>) {
+    for turn in 0..times {
+        if let Err(difference) = one(turn) {
+            println!("{what} {turn}: {difference}");
+            std::process::exit(1);
+        }
+    }
 }
 
 fn main() {
@@ -253,19 +323,15 @@ fn main() {
             }
         };
         if !good {
-            println!("call {turn}: {}", describe(&f, call, rank, &x));
+            println!("call {turn}: {}", describe(&f, call, rank as i128, &x));
             println!("the library answered {code} with value {value} and bytes {y:?}; expected code {expected}");
             std::process::exit(1);
         }
     }
-    let (walks, mut steps) = (calls / 10, Steps::default());
-    for turn in 0..walks {
-        if let Err(difference) = walk(&mut r, &t, &mut steps) {
-            println!("walk {turn}: {difference}");
-            std::process::exit(1);
-        }
-    }
-    let Steps { moved, ended, refused } = steps;
+    let (walks, mut steps) = (calls / 10, Outcomes::default());
+    each_agrees("walk", walks, |_| walk(&mut r, &t, &mut steps));
+    let (jumps, mut landings) = (calls / 5, Outcomes::default());
+    each_agrees("jump", jumps, |turn| jump(&mut r, &t, 1 + turn % 6, &mut landings));
     print!("{calls} calls agree, {answered} of them answered and {} refused; ", calls - answered);
-    println!("{walks} walks agree, {moved} of their steps moved, {ended} heard END and {refused} were refused");
+    println!("{walks} walks agree, of their steps {steps}; {jumps} jumps agree, {landings}");
 }

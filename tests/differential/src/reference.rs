@@ -1,6 +1,7 @@
 //! An independent implementation of the families: objects by the table's words, order by a comparison, numbers by counting extensions in
 //! 128-bit arithmetic that stops at 2^100. It shares no code with the library: it has no steps, only ranks, so that a neighbour is the object
-//! whose rank differs by one; a walk's step is the object of that rank, whatever number the walk keeps.
+//! whose rank differs by one; a walk's step is the object of that rank, whatever number the walk keeps, and a jump's goal the object whose rank is a
+//! sum in 128 bits.
 
 use std::cmp::Ordering;
 
@@ -378,4 +379,17 @@ pub fn stride(t: &Tables, f: &Kind, on: bool, x: &[u8], number: u64) -> (u32, Ve
         (false, _, 0) => stays(8),
         (false, _, _) => (0, f.unrank(t, at - 1), number - 1),
     }
+}
+
+/// A jump: its code, and the bytes that it leaves.
+pub fn leap(t: &Tables, f: &Kind, d: i64, x: &[u8]) -> (u32, Vec<u8>) {
+    let q = refusal(t, f, "RANK", x, 0);
+    if q != 0 {
+        return (q, x.to_vec());
+    }
+    let to = f.rank(t, x) as i128 + d as i128;
+    if to < 0 || to >= f.count(t) as i128 {
+        return (100, x.to_vec());
+    }
+    (0, f.unrank(t, to as u128))
 }

@@ -1,0 +1,73 @@
+-- `jump::jump_from` meets its contract: UNRANK, asked whether the rank aimed at is below the count, tells the rest.
+-- Assumes nothing.
+use mathlib.Core.Path.{sym, _∙_, ap}
+use Prim.Native.Nat.{_^_}
+use mir.Syntax.{w64}
+use mir.ValLaws.{toZ-ofZ}
+use Rattle.families.specs.Answers.{writtenAs}
+use Rattle.jump.specs.Jumps.{target}
+use Rattle.jump.specs.inner.Goals.{goalAs}
+use Rattle.jump.proofs.Landing.{off, ended, landed}
+use borrow.Author.Needs.{needs}
+use Rattle.jump.proofs.jump_from.Statement.{statement}
+use Rattle.jump.proofs.jump_from.Tie as tie
+
+aim-requires : tie.Need-aim-requires
+aim-requires c κs = search needs
+
+enum-known-to : tie.Need-enum-known-to
+enum-known-to c = search needs
+
+enum-told : tie.Need-enum-told
+enum-told c = search needs
+
+returns : tie.Need-returns
+returns c =
+    let s = c .before .before .before .before in
+    let aimed = c .before .before .aim .ensures ∙ ap (target _ (2 ^ 64)) (toZ-ofZ w64 (s .args .d) (s .fits .d)) in
+    off _ _ _ _ (s .pre .0) (s .pre .1) (sym (ap goalAs (c .enum-told .given .1)) ∙ aimed)
+
+unrank-requires : tie.Need-unrank-requires
+unrank-requires c κs = search needs
+
+enum-told-2 : tie.Need-enum-told-2
+enum-told-2 c = search needs
+
+enum-told-3 : tie.Need-enum-told-3
+enum-told-3 c = search needs
+
+same-length : tie.Need-same-length
+same-length c = search needs
+
+returns-2 : tie.Need-returns-2
+returns-2 c =
+    let s = c .before .before .before .before .before .before .before .before .before .before .before in
+    let aimed = c .before .before .before .before .before .before .before .before .before .aim .ensures ∙ ap (target _ (2 ^ 64)) (toZ-ofZ w64 (s .args .d) (s .fits .d)) in
+    let to = sym (ap goalAs (c .before .before .before .before .before .before .before .to .given .1)) ∙ aimed in
+    ended _ _ _ _ (s .pre .0) (s .pre .1) to (ap writtenAs (c .enum-told3 .given .1)) (c .before .before .before .before .unrank .ensures)
+
+same-length-2 : tie.Need-same-length-2
+same-length-2 c = search needs
+
+returns-3 : tie.Need-returns-3
+returns-3 c =
+    let s = c .before .before .before .before .before .before .before .before .before .before .before in
+    let aimed = c .before .before .before .before .before .before .before .before .before .aim .ensures ∙ ap (target _ (2 ^ 64)) (toZ-ofZ w64 (s .args .d) (s .fits .d)) in
+    let to = sym (ap goalAs (c .before .before .before .before .before .before .before .to .given .1)) ∙ aimed in
+    landed _ _ _ _ (s .pre .0) (s .pre .1) to (ap writtenAs (c .enum-told2 .given .1)) (c .before .before .before .before .unrank .ensures)
+
+pub jump-from-spec : {M : Type 1} → statement M
+jump-from-spec =
+    tie.close
+    (tie.spec
+    aim-requires
+    enum-known-to
+    enum-told
+    returns
+    unrank-requires
+    enum-told-2
+    enum-told-3
+    same-length
+    returns-2
+    same-length-2
+    returns-3)

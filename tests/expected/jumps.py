@@ -1,0 +1,219 @@
+#!/usr/bin/env python3
+"""Writes the cases of the program `test_jumps`, crates/test_jumps/data/, its args, and what it is to print, crates/test_jumps/stdout. The head
+of crates/test_jumps/src/main.rt has the form of a case. The library isn't run: a jump is written from "Jump by a signed distance" of paper 02,
+on the listings of families.py, with Python's integers.
+
+    python3 tests/expected/jumps.py"""
+from functools import cache
+
+from families import BRANCHES, FITS, PLACES, Filtered, Ranks, count, family, length, name, refusal
+from texts import words, write
+
+SMALLEST, LARGEST = -(2**63), 2**63 - 1
+# bytes and counts that the program has room for
+MOST = 100
+
+
+@cache
+def listing(f):
+    return Filtered(f) if length(f) <= 8 and count(f) <= 24 else Ranks(f)
+
+
+def jump(f, x, d):
+    """What stands in front of the bytes, nothing where an object is written, and the bytes after the jump."""
+    no = refusal("RANK", f, x)
+    if no:
+        return f" refused {no}", x
+    there = listing(f).rank(x) + d
+    if 0 <= there <= listing(f).count() - 1:
+        return "", listing(f).object(there)
+    return " END", x
+
+
+class Case:
+    """Jumps from the bytes x, by each distance from `first` to `last`, or by the first alone."""
+
+    def __init__(self, label, f, x, first, last=None):
+        self.label, self.f, self.x, self.first, self.last = label, f, tuple(x), first, first if last is None else last
+        assert SMALLEST <= self.first <= self.last <= LARGEST
+        assert not set(label) & set(":;/") and len(self.x) <= MOST and len(f[3]) <= MOST
+
+    def line(self):
+        kind, n, k, counts = self.f
+        return f"{self.label}: {kind} {n} {k} / {self.first} {self.last} /{words(self.x)} /{words(counts)}"
+
+    def printed(self):
+        text = ""
+        for d in range(self.first, self.last + 1):
+            said, y = jump(self.f, self.x, d)
+            text += f" {d}:{said}{words(y)}"
+            if said == "" and d != SMALLEST:
+                # "restores the bytes"
+                assert jump(self.f, y, -d) == ("", self.x)
+                text += f", back{words(self.x)}"
+            text += ";"
+        return f"{self.label}:{text}"
+
+
+def from_rank(f, r, first, last=None):
+    return Case(f"{name(f)} from {r}", f, listing(f).object(r), first, last)
+
+
+def small_families():
+    """From every object, to every object and beyond both ends."""
+    fs = [family(1, n, k) for n, k in ((0, 0), (5, 0), (1, 1), (5, 5), (3, 1), (4, 2), (7, 6), (5, 3), (6, 3))]
+    fs += [family(2, len(counts), 0, counts) for counts in ((), (0,), (0, 0), (3,), (2, 1), (1, 0, 2), (2, 2), (1, 2, 1), (3, 3))]
+    fs += [family(3, n) for n in range(5)]
+    fs += [family(4, n, k) for n, k in ((0, 0), (1, 1), (4, 1), (3, 3), (3, 2), (4, 2), (5, 4), (5, 2))]
+    fs += [family(5, n, k) for n, k in ((0, 0), (4, 1), (4, 4), (5, 2), (7, 3), (10, 3), (12, 4))]
+    fs += [family(6, n) for n in range(5)]
+    for f in fs:
+        many = listing(f).count()
+        assert many == count(f) <= 24
+        for r in range(many):
+            yield from_rank(f, r, -many - 2, many + 2)
+
+
+# one of each kind
+SAMPLES = family(1, 4, 2), family(2, 2, 0, (2, 1)), family(3, 3), family(4, 4, 2), family(5, 7, 3), family(6, 3)
+# one object each
+ALONE = tuple(family(*f) for f in ((1, 5, 0), (1, 5, 5), (2, 0), (2, 1, 0, (3,)), (3, 0), (3, 1), (4, 0, 0), (5, 0, 0), (6, 0)))
+
+
+def both_ends():
+    """The ends of the signed numbers, and distances that are small again where bits are lost: from the first object, a middle one and the last."""
+    for f in (*SAMPLES, *ALONE):
+        many = listing(f).count()
+        for r in sorted({0, many // 2, many - 1}):
+            yield from_rank(f, r, SMALLEST, SMALLEST + 2)
+            for power in (8, 16, 31, 32):
+                yield from_rank(f, r, -(2**power) - 1, -(2**power) + 1)
+            yield from_rank(f, r, -1, 1)
+            for power in (8, 16, 31, 32):
+                yield from_rank(f, r, 2**power - 1, 2**power + 1)
+            yield from_rank(f, r, LARGEST - 2, LARGEST)
+
+
+def in_no_order(seed):
+    """Numbers of 63 bits by a sequence of remainders, so that they are the same wherever this is run."""
+    while True:
+        drawn = 0
+        for _ in range(3):
+            seed = (seed * 1103515245 + 12345) % 2**31
+            drawn = drawn * 2**21 + seed // 2**10
+        yield drawn
+
+
+def far(f, drawn):
+    """From the first object, one in the middle and the last: onto both ends and one beyond them. Between objects in no order, and anywhere."""
+    last = count(f) - 1
+    middle = 1234567890123456789 % (last + 1)
+    wanted = [(0, -1, 1), (0, last), (0, last + 1), (0, LARGEST), (last, -1, 1), (last, -last), (last, -last - 1), (last, SMALLEST)]
+    wanted += [(middle, -middle), (middle, -middle - 1), (middle, last - middle), (middle, last - middle + 1)]
+    for sign in (1, -1):
+        here, there = (next(drawn) * next(drawn) % (last + 1) for _ in range(2))
+        wanted += [(here, there - here), (there, sign * next(drawn))]
+    return [case for case in dict.fromkeys(wanted) if all(SMALLEST <= d <= LARGEST for d in case[1:])]
+
+
+def half_way(f):
+    """Where 2^63 objects or more stand on one side: the longest jumps, onto both ends and one beyond them."""
+    last = count(f) - 1
+    yield from ((r, d) for r in (2**63 - 1, 2**63) for d in (SMALLEST, -LARGEST))
+    yield from ((r, LARGEST) for r in (last - LARGEST, last - LARGEST + 1))
+    yield from ((0, LARGEST), (last, SMALLEST), (last, -LARGEST))
+
+
+def large_families():
+    fs = [family(1, n, k) for n, k in ((67, 33), (80, 21), (80, 3), (80, 80))]
+    fs += [family(2, len(counts), 0, counts) for counts in ((33, 34), (0, 6, 0, 7, 8), (78, 2))]
+    fs += [family(3, 20)]
+    fs += [family(4, n, k) for n, k in ((65, 2), (26, 9), (80, 79))]
+    fs += [family(5, n, k) for n, k in ((80, 18), (80, 70), (80, 3))]
+    fs += [family(6, 36)]
+    drawn = in_no_order(2)
+    for f in fs:
+        assert count(f) < FITS
+        wanted = far(f, drawn) + (list(half_way(f)) if count(f) > 2**63 else [])
+        for r, *distances in dict.fromkeys(wanted):
+            yield from_rank(f, r, *distances)
+    # sums that are ranks again where they lose a bit
+    f = family(4, 65, 2)
+    last = count(f) - 1
+    assert last == FITS - 2
+    yield from_rank(f, 0, -3, 3)
+    yield from_rank(f, last, -3, 3)
+    yield from_rank(f, last, LARGEST)
+
+
+def some_bytes(f):
+    """An object where there is one, else 1, 2, .. as many as the table says."""
+    if refusal("FIRST", f, ()) in (0, 6):
+        return listing(f).object(0)
+    return tuple(range(1, 1 + (min(length(f), PLACES) if 1 <= f[0] <= 6 else f[2])))
+
+
+def missing():
+    """Families that miss each question 1 to 5, with its number; some miss others behind it."""
+    yield from ((1, family(kind, 4, 2)) for kind in (0, 7, FITS - 1))
+    yield 1, family(7, PLACES + 1, 2, (1,))
+    yield from ((2, family(1, n, k)) for n, k in ((PLACES + 1, 2), (4, PLACES + 1), (FITS - 1, 0)))
+    yield from ((2, f) for f in (family(3, 4, 1), family(6, BRANCHES + 1)))
+    # 2, and 3 and 4
+    yield 2, family(1, 2, PLACES + 1, (1, 1))
+    yield from ((3, family(2, n, 0, counts)) for n, counts in ((3, (1, 1)), (1, (1, 1)), (2, (PLACES, 1))))
+    yield 3, family(1, 4, 2, (0,))
+    # 3, and 4; 3, and 5
+    yield from ((3, f) for f in (family(1, 2, 4, (0,)), family(3, 21, 0, (1,))))
+    yield from ((4, f) for f in (family(1, 2, 4), family(4, 3, 0), family(5, 3, 0), family(5, 3, 4)))
+    yield from ((5, family(1, n, k)) for n, k in ((PLACES, PLACES // 2), (68, 34)))
+    yield from ((5, f) for f in (family(2, 2, 0, (40, 40)), family(3, 21), family(4, 66, 2), family(6, 37)))
+
+
+def refused(label, q, f, x):
+    """By no distance, one on and one back, and by both ends of the signed numbers."""
+    assert refusal("RANK", f, tuple(x)) == q
+    for distances in ((SMALLEST,), (-1, 1), (LARGEST,)):
+        yield Case(f"question {q}, {label}", f, x, *distances)
+
+
+def refusals():
+    for q, f in missing():
+        lent = f" with the counts{words(f[3])}" if f[3] and f[0] != 2 else f" with n {f[1]}" if f[0] == 2 else ""
+        x = some_bytes(f)
+        yield from refused(f"{name(f)}{lent}", q, f, x)
+        # 6, or 7, behind it
+        yield from refused(f"{name(f)}{lent}, a byte more", q, f, x + (1,))
+        if x:
+            yield from refused(f"{name(f)}{lent}, no object", q, f, (0,) * len(x))
+    for f in SAMPLES:
+        x = listing(f).object(1)
+        for y in (x[:-1], x + x[-1:], (), (0,) * (len(x) + 1), (1,) * (PLACES + 1)):
+            yield from refused(f"{name(f)} on {len(y)} bytes", 6, f, y)
+        for y in ((0,) * len(x), (x[0] + 2,) + x[1:], x[:-1] + (255,)):
+            yield from refused(f"{name(f)}, no object", 7, f, y)
+    # the empty object alone, and a byte
+    for f in ALONE:
+        if length(f) == 0:
+            yield from refused(f"{name(f)} on 1 byte", 6, f, (0,))
+    # objects of other counts
+    f = family(2, 2, 0, (1, 2))
+    yield from refused(name(f), 7, f, (1, 1, 2))
+    yield from refused(name(f), 6, f, (1, 1, 2, 2))
+
+
+def main():
+    made = {"small_families": small_families, "both_ends": both_ends, "large_families": large_families, "refusals": refusals}
+    expected = []
+    for file, cases in made.items():
+        cases = list(cases())
+        lines = [c.line() for c in cases]
+        # what the program has room for
+        assert sum(len(line) + 1 for line in lines) <= 65536
+        write(f"crates/test_jumps/data/{file}", lines)
+        expected += [c.printed() for c in cases]
+    write("crates/test_jumps/args", made)
+    write("crates/test_jumps/stdout", expected)
+
+
+main()
