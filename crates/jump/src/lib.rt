@@ -77,10 +77,11 @@ fn jump_from<'a>(rank: u64, f: Family, lists: Lists<'a>, d: i64, object: &mut [u
     let Goal::At(to) = aim(rank, d) else {
         return Jumped::End;
     };
-    let Written::Done = families::unrank(to, f, lists, object) else {
-        return Jumped::End;
-    };
-    Jumped::Written
+    let answer = families::unrank(to, f, lists, object);
+    match answer {
+        Written::Done => Jumped::Written,
+        Written::Refused(_) => Jumped::End,
+    }
 }
 
 // A jump: writes the object d places on or back, or answers END and changes nothing.

@@ -44,7 +44,7 @@ returns-2 c =
     let s = c .before .before .before .before .before .before .before .before .before .before .before in
     let aimed = c .before .before .before .before .before .before .before .before .before .aim .ensures ∙ ap (target _ (2 ^ 64)) (toZ-ofZ w64 (s .args .d) (s .fits .d)) in
     let to = sym (ap goalAs (c .before .before .before .before .before .before .before .to .given .1)) ∙ aimed in
-    ended _ _ _ _ (s .pre .0) (s .pre .1) to (ap writtenAs (c .enum-told3 .given .1)) (c .before .before .before .before .unrank .ensures)
+    landed _ _ _ _ (s .pre .0) (s .pre .1) to (ap writtenAs (c .enum-told2 .given .1)) (c .before .before .before .before .unrank .ensures)
 
 same-length-2 : tie.Need-same-length-2
 same-length-2 c = search needs
@@ -54,7 +54,7 @@ returns-3 c =
     let s = c .before .before .before .before .before .before .before .before .before .before .before in
     let aimed = c .before .before .before .before .before .before .before .before .before .aim .ensures ∙ ap (target _ (2 ^ 64)) (toZ-ofZ w64 (s .args .d) (s .fits .d)) in
     let to = sym (ap goalAs (c .before .before .before .before .before .before .before .to .given .1)) ∙ aimed in
-    landed _ _ _ _ (s .pre .0) (s .pre .1) to (ap writtenAs (c .enum-told2 .given .1)) (c .before .before .before .before .unrank .ensures)
+    ended _ _ _ _ (s .pre .0) (s .pre .1) to (ap writtenAs (c .enum-told3 .given .1)) (c .before .before .before .before .unrank .ensures)
 
 pub jump-from-spec : {M : Type 1} → statement M
 jump-from-spec =
