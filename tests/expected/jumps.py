@@ -7,7 +7,7 @@ on the listings of families.py, with Python's integers.
 from functools import cache
 
 from families import BRANCHES, FITS, PLACES, Filtered, Ranks, count, family, length, name, refusal
-from texts import words, write
+from texts import words, write_program
 
 SMALLEST, LARGEST = -(2**63), 2**63 - 1
 # bytes and counts that the program has room for
@@ -204,16 +204,7 @@ def refusals():
 
 def main():
     made = {"small_families": small_families, "both_ends": both_ends, "large_families": large_families, "refusals": refusals}
-    expected = []
-    for file, cases in made.items():
-        cases = list(cases())
-        lines = [c.line() for c in cases]
-        # what the program has room for
-        assert sum(len(line) + 1 for line in lines) <= 65536
-        write(f"crates/test_jumps/data/{file}", lines)
-        expected += [c.printed() for c in cases]
-    write("crates/test_jumps/args", made)
-    write("crates/test_jumps/stdout", expected)
+    write_program("test_jumps", made)
 
 
 main()

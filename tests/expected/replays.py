@@ -5,7 +5,7 @@ marker" of paper 01, on the listings of families.py. That a list that doesn't fi
 
     python3 tests/expected/replays.py"""
 from families import BRANCHES, FITS, PLACES, Filtered, Ranks, family, is_object, length, name, refusal
-from texts import words, write
+from texts import words, write_program
 
 CODES = {"FIRST": 1, "LAST": 2, "NEXT": 3, "PREVIOUS": 4, "UNRANK": 5}
 CALLS = {code: call for call, code in CODES.items()}
@@ -181,13 +181,7 @@ def misfits():
 
 def main():
     made = {"small_families": small_families, "refusals": refusals, "large_families": large_families, "misfits": misfits}
-    expected = []
-    for file, cases in made.items():
-        cases = list(cases())
-        write(f"crates/test_replay/data/{file}", [c.line() for c in cases])
-        expected += [c.printed() for c in cases]
-    write("crates/test_replay/args", made)
-    write("crates/test_replay/stdout", expected)
+    write_program("test_replay", made)
 
 
 main()

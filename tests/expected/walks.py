@@ -8,7 +8,7 @@ number 0, what stands behind the bytes kept stays, and a run goes as many steps 
 from functools import cache
 
 from families import BRANCHES, FITS, PLACES, Filtered, Ranks, count, family, length, name, refusal
-from texts import words, write
+from texts import words, write_program
 
 STEPPED, END = 21, 100
 UNWRITTEN = 255
@@ -339,16 +339,7 @@ def main():
         "lists_change": lists_change,
         "large_families": large_families,
     }
-    expected = []
-    for file, cases in made.items():
-        cases = list(cases())
-        lines = [c.line() for c in cases]
-        # what the program has room for
-        assert sum(len(line) + 1 for line in lines) <= 65536
-        write(f"crates/test_walks/data/{file}", lines)
-        expected += [c.printed() for c in cases]
-    write("crates/test_walks/args", made)
-    write("crates/test_walks/stdout", expected)
+    write_program("test_walks", made)
 
 
 main()
