@@ -11,7 +11,7 @@
 //
 // The cases and the expected text, `stdout`, that of the files in turn, are written by tests/expected/jumps.py, on the listings.
 // `small_families`: every kind, from each object to each other and beyond both ends. `both_ends`: the smallest and the largest distance.
-// `large_families`: up to 2^64 - 1 objects and 80 places. `refusals`: each question missed, and others behind it.
+// `large_families`: up to 2^64 - 1 objects and the longest there are. `refusals`: each question missed, and others behind it.
 use families::Family;
 use families::Lists;
 use libc::STDOUT_FILENO;
