@@ -121,6 +121,14 @@ def jump_targets(limit):
     say(*[f"  - missed: {r[2]} ({r[0]:.2f} by time, {r[1]:.2f} by instructions)" for r in rows if max(r[:2]) > limit])
 
 
+def subset_ranks(limit):
+    rows = [(counts[(f, p, "RANK", "library")] / counts[(f, p, "RANK", "plain")], times[(f, p, "RANK", "library")] / times[(f, p, "RANK", "plain")], f, p) for f, p in families if p == "random" and f[0] == "1" and (f, p, "RANK", "library") in times]
+    now = [f"{f[2:]} {times[(f, p, 'RANK', 'library')] / times[(f, p, 'RANK', 'before')]:.2f}" for _, _, f, p in rows if earlier]
+    say(f"- RANK of subsets at most {limit} times plain C by instructions: largest {max(rows)[0]:.2f} ({max(rows)[2]}); by time {min(r[1] for r in rows):.2f} to {max(r[1] for r in rows):.2f}"
+        + (f"; against before, by time: {', '.join(now)}." if now else "."))
+    say(*[f"  - missed: {r[2]} ({r[0]:.3f})" for r in rows if r[0] > limit])
+
+
 def worst(group, limit):
     """The largest ratio of a group of calls, by time and by instructions, and what lies above the limit."""
     rows = []
@@ -160,6 +168,7 @@ def targets():
         say(*[f"  - missed: {what} ({times_faster:,.0f})" for times_faster, what in slow if times_faster < 100])
     walk_targets("6 Dyck words 36", 2.2)
     jump_targets(1.3)
+    subset_ranks(1.7)
 
 
 say("# Benchmarks", "", f"Written by `benchmarks/run` on {datetime.date.today()}: {shell('lscpu | sed -n s/^Model.name:[[:space:]]*//p')}, {shell('gcc --version | head -1')}, -O2.", "")
@@ -169,12 +178,13 @@ say("Method. `benchmarks/measure.c` calls the library (`rt staticlib arrangement
     "Instructions are callgrind's for one pass over the 256, divided by 256. C++ is `next_permutation` or `prev_permutation`, which asks nothing;",
     "GSL's steps follow its validity check and go by dictionary; SymPy's are its nearest functions (all partitions rather than those with k parts;",
     "its subsets' rank, which lists, only for the small family). PARI's are numtoperm and permtonum, GAP's is Binomial.",
-    *(["Before is an earlier build of the library, linked beside today's and measured in turn with it."] if earlier else []), "")
+    *(["Before is an earlier build of the library, linked beside today's and measured in turn with it. Both begin on a page, so that code that is the",
+       "same lies the same: elsewhere within a line of 64 bytes it takes up to a quarter more."] if earlier else []), "")
 say("## Targets", "")
 targets()
 say("", "Why, by the profile:", "",
     "- UNRANK of subsets calls itself on the shorter object for each place. The compiler hands the shorter slice on through memory and makes no loop of",
-    "  the calls. Where an array is lent whole, as in RANK of subsets and set partitions, it does.",
+    "  the calls. Where an array is lent whole, as in RANK of set partitions, it does. RANK of subsets is a loop: 7 instructions a place and a coefficient.",
     "- The plain tables are built beforehand and have every number ready. Here a coefficient is two products and a shift out of three literals, 24",
     "  instructions; UNRANK of subsets asks for one at each number that it passes. Above 26 models Stirling numbers are worked out once a call, a band of up to",
     "  525, and UNRANK works out the count besides, for question 8. A partition number is cut out of three that share 64 bits; an odd column takes two.",

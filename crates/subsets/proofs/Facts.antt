@@ -4,7 +4,7 @@ use mathlib.Core.Path.{_≡_, refl, sym, _∙_}
 use mathlib.Core.Logic.{_⊎_, inl, inr, ⊎-elim}
 use mathlib.Core.Bool.{true, _&&_}
 use mathlib.Core.List.{[], _∷_, _++_}
-use Prim.Native.Nat.{ℕ, zero, suc, _≤_, _<_, _+_}
+use Prim.Native.Nat.{ℕ, zero, suc, _≤_, _<_}
 use native.Mathlib.Nat.{eq-or-lt-of-le, le-of-suc-le-suc}
 use native.Mathlib.Omega.{arith}
 use lib.Dec.{leb, ltb, eqb}
@@ -63,14 +63,6 @@ subset-cases n k x e = let both = and-true (eqb (length x) k) (climbs 0 n x) e i
 pub subset-makes : (n k : ℕ) (x : Bytes) → length x ≡ k → climbs 0 n x ≡ true → isSubset n k x ≡ true
 unfolding isSubset
 subset-makes n k x h e = and-makes (eq-eqb (length x) k h) e
-
-climbs-few : (a n : ℕ) (x : Bytes) → climbs a n x ≡ true → a ≤ n → a + length x ≤ n
-climbs-few a n [] e h = omega arith
-climbs-few a n (b ∷ x) e h = let c = climbs-cases a n b x e in omega (arith, climbs-few b n x (c .2) (c .1))
-
--- no more numbers are chosen than there are
-pub subset-few : (n k : ℕ) (x : Bytes) → isSubset n k x ≡ true → k ≤ n
-subset-few n k x e = let c = subset-cases n k x e in omega (arith, climbs-few 0 n x (c .1) (omega arith))
 
 pub subset-wider : (m n k : ℕ) (x : Bytes) → m ≤ n → isSubset m k x ≡ true → isSubset n k x ≡ true
 subset-wider m n k x h e = let both = subset-cases m k x e in subset-makes n k x (both .0) (climbs-wider 0 m n x h (both .1))

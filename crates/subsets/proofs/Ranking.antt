@@ -7,7 +7,7 @@ use Prim.Native.Nat.{ℕ, zero, suc, _+_, _-_, _≤_, _<_}
 use native.Mathlib.Numerals.{add-one}
 use native.Mathlib.Omega.{arith}
 use lib.ListN.{length, take, drop, getD, set, drop-of-length-le}
-use lib.Seq.{getD-take, take-take}
+use lib.Seq.{getD-take, take-all, take-take}
 use Rattle.numbers.specs.Numbers.{choose}
 use Rattle.numbers.proofs.Laws.{pascal, choose-mono}
 use Rattle.listings.specs.Bytes.{Bytes}
@@ -27,13 +27,16 @@ use Rattle.subsets.proofs.Lent.{front-long, rest}
 abbrev pub rankOf : ℕ → ℕ → Bytes → ℕ
 rankOf n k x = countBefore subsetBefore (take k x) (subsets n k)
 
-pub below-count : (n k : ℕ) (x : Bytes) → isSubset n k (take k x) ≡ true → rankOf n k x < choose n k
-below-count n k x o = omega (arith, at-below (subsets n k) (rankOf n k x) (at-rank (lists n k) (take k x) o), counted n k)
+pub below-count : (n k : ℕ) (x : Bytes) → isSubset n k x ≡ true → countBefore subsetBefore x (subsets n k) < choose n k
+below-count n k x o = omega (arith, at-below (subsets n k) _ (at-rank (lists n k) x o), counted n k)
 
 pub rank-of-none : (n k : ℕ) (x : Bytes) → k ≡ 0 → 0 ≡ rankOf n k x
 unfolding subsets countBefore colexBefore
 rank-of-none n zero x e = refl
 rank-of-none n (suc k) x e = absurd (omega arith)
+
+pub rank-of-all : (n : ℕ) (x : Bytes) → rankOf n (length x) x ≡ countBefore subsetBefore x (subsets n (length x))
+rank-of-all n x = rw (take-all (length x) x (omega arith))
 
 by-last : (n top end : ℕ) {x : Bytes} (front : Bytes) → x ≡ front ++ (suc top ∷ []) → top < n → isSubset top end front ≡ true
     → countBefore subsetBefore x (subsets n (suc end)) ≡ choose top (suc end) + countBefore subsetBefore front (subsets top end)
@@ -41,18 +44,12 @@ by-last n top end front e h o =
     let r = countBefore subsetBefore front (subsets top end) in
     rw e (place-is-rank (lists n (suc end)) (choose top (suc end) + r) (on-top n top end r h (at-rank (lists top end) front o)))
 
--- fewer numbers to choose from, and one fewer to choose
-one-fewer : (n top k : ℕ) → top < n → choose top k ≤ choose n (suc k)
-one-fewer n top k h = omega (arith, pascal top k, choose-mono (suc k) h)
-
 -- the first k numbers, b the last of them
 pub record Parted (n k end b : ℕ) (x : Bytes) : Type 0 where
   pub some : 1 ≤ b
   pub high : b ≤ n
   pub front : isSubset (b - 1) end (take end x) ≡ true
   pub rank : rankOf n k x ≡ choose (b - 1) k + rankOf (b - 1) end x
-  pub fewer : choose (b - 1) k ≤ choose n k
-  pub fewer-front : choose (b - 1) end ≤ choose n k
 
 pub parted : (n k end b : ℕ) (x : Bytes) → isSubset n k (take k x) ≡ true → k ≡ suc end → b ≡ getD x end 0 → Parted n k end b x
 parted n k end b x o e f =
@@ -67,8 +64,6 @@ parted n k end b x o e f =
       high = omega (arith, t .last, t .below, last);
       front = rw top (rw front at (t .front));
       rank = rw (top, e) (rw front at (by-last n (t .top) end (take end y) (rw (t .last) at (in-two n end y o′)) (t .below) (t .front)));
-      fewer = choose-mono k (omega (arith, t .last, t .below, last));
-      fewer-front = rw (top, e) (one-fewer n (t .top) end (t .below));
     }
 
 -- there is one subset of no numbers
@@ -77,6 +72,10 @@ unfolding subsets choose
 unrank-none n zero [] e h = refl
 unrank-none n (suc r) [] e h = absurd (omega arith)
 unrank-none n r (b ∷ x) e h = absurd (omega arith)
+
+-- fewer numbers to choose from, and one fewer to choose
+one-fewer : (n top k : ℕ) → top < n → choose top k ≤ choose n (suc k)
+one-fewer n top k h = omega (arith, pascal top k, choose-mono (suc k) h)
 
 -- what is left of a rank is a rank of the numbers in front
 pub rest-below : (n top k j r : ℕ) → k ≡ suc j → top < n → choose top k ≤ r → r < choose (suc top) k → (choose top j ≤ choose n k) × (r - choose top k < choose top j)

@@ -1,9 +1,8 @@
 // Kind 1: subsets of k out of 1 to n, over lent byte slices. Called by `families`, which shows what each function requires.
 ghost use mathlib.Core.Path.{_≡_};
 ghost use mathlib.Core.Bool.{true};
-ghost use mathlib.Core.List.{List};
-ghost use Prim.Native.Nat.{ℕ, _≤_, _<_, _^_};
-ghost use lib.ListN.{length, take};
+ghost use Prim.Native.Nat.{_≤_, _<_, _^_};
+ghost use lib.ListN.{length};
 ghost use Rattle.numbers.specs.Limits.{places};
 ghost use Rattle.numbers.specs.Numbers.{choose};
 ghost use Rattle.listings.specs.Calls.{NEXT, PREVIOUS, Said, act};
@@ -16,9 +15,7 @@ mod search;
 
 use binomials::coefficient;
 use listings::Step;
-use listings::copied;
 use listings::fill_up;
-use numbers::LONGEST_OBJECT;
 use search::largest_top;
 use search::number_to_lower;
 use search::number_to_raise;
@@ -95,31 +92,23 @@ pub fn previous(n: u64, object: &mut [u8]) -> Step
     Step::Moved
 }
 
-// How many come before the first k numbers, by a call to itself for each: those without the last of them, and then as many as before the others, below
-// it. The numbers are lent as an array: where calls hand a slice on, the compiler makes no loop of them.
-fn rank_of(n: u64, numbers: &[u8; LONGEST_OBJECT], k: usize) -> u64
-    requires { ⌜ n ≤ places ⌝ }
-    requires { ⌜ isSubset n k (take k (now numbers)) ≡ true ⌝ }
-    requires { ⌜ choose n k < 2 ^ 64 ⌝ }
-    ensures { λ r. ⌜ r ≡ countBefore subsetBefore (take k (now (numbers .entry))) (subsets n k) ⌝ }
-{
-    if k == 0 {
-        return 0;
-    }
-    let end = k - 1;
-    let top = wide(numbers[end]) - 1;
-    coefficient(top, k as u64) + rank_of(top, numbers, end)
-}
-
-// How many come before it.
+// How many come before it, with a summand for each place, from the last to the first: a number b at place j, counted from 1, adds those that have a
+// smaller one there and the same ones behind it, the subsets of j out of the numbers below b. So 3 4 6 7 has 15 + 10 + 3 + 2 before it.
 pub fn rank(n: u64, object: &[u8]) -> u64
     requires { ⌜ n ≤ places ⌝ }
     requires { ⌜ isSubset n (length (now object)) (now object) ≡ true ⌝ }
     requires { ⌜ choose n (length (now object)) < 2 ^ 64 ⌝ }
     ensures { λ r. ⌜ r ≡ countBefore subsetBefore (now (object .entry)) (subsets n (length (now (object .entry)))) ⌝ }
 {
-    let numbers = copied(object);
-    rank_of(n, &numbers, object.len())
+    let mut before = 0;
+    let mut place = object.len();
+    while 0 < place {
+        let i = place - 1;
+        let below = wide(object[i]) - 1;
+        before += coefficient(below, place as u64);
+        place -= 1;
+    }
+    before
 }
 
 // The object of a rank: its last number leaves as many below it as fit into the rank, and the others make up the rest.
