@@ -7,7 +7,7 @@ use Prim.Native.Nat.{ℕ, zero, suc, _+_, _-_, _≤_, _<_}
 use native.Mathlib.Numerals.{add-one}
 use native.Mathlib.Omega.{arith}
 use lib.ListN.{length, take, drop, getD, set, drop-of-length-le}
-use lib.Seq.{getD-take, take-all, take-take}
+use lib.Seq.{getD-take, take-length, take-take}
 use Rattle.numbers.specs.Numbers.{choose}
 use Rattle.numbers.proofs.Laws.{pascal, choose-mono}
 use Rattle.listings.specs.Bytes.{Bytes}
@@ -36,7 +36,7 @@ rank-of-none n zero x e = refl
 rank-of-none n (suc k) x e = absurd (omega arith)
 
 pub rank-of-all : (n : ℕ) (x : Bytes) → rankOf n (length x) x ≡ countBefore subsetBefore x (subsets n (length x))
-rank-of-all n x = rw (take-all (length x) x (omega arith))
+rank-of-all n x = rw (take-length x)
 
 by-last : (n top end : ℕ) {x : Bytes} (front : Bytes) → x ≡ front ++ (suc top ∷ []) → top < n → isSubset top end front ≡ true
     → countBefore subsetBefore x (subsets n (suc end)) ≡ choose top (suc end) + countBefore subsetBefore front (subsets top end)

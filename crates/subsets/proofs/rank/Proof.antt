@@ -1,12 +1,11 @@
--- `subsets::rank` meets its contract. The loop's invariant: the numbers that are left are a subset of those up to some m, and what has been added and
--- their rank make up the rank.
+-- `subsets::rank` meets its contract. The loop's invariant: the numbers left are a subset out of some m, whose rank and what has been added make up the rank.
 -- Assumes nothing.
 use mathlib.Core.Path.{_≡_}
 use mathlib.Core.Bool.{true}
 use Prim.Native.Nat.{ℕ, _+_, _-_, _≤_, _<_, _^_}
 use native.Mathlib.Omega.{arith}
 use lib.ListN.{length, take}
-use lib.Seq.{take-all}
+use lib.Seq.{take-length}
 use Rattle.numbers.specs.Numbers.{choose}
 use Rattle.listings.specs.Places.{countBefore}
 use Rattle.subsets.specs.Objects.{isSubset, subsetBefore}
@@ -25,7 +24,7 @@ abbrev μ-loop : tie.MeasureT-loop
 loop-holds : tie.Need-loop-holds Inv-loop μ-loop
 loop-holds c =
     let x = c .before .args .object .now in
-    (c .before .args .n, omega arith, omega arith, omega (arith, rank-of-all (c .before .args .n) x), rw (take-all (length x) x (omega arith)) (c .before .pre .1 .0))
+    (c .before .args .n, omega arith, omega arith, omega (arith, rank-of-all (c .before .args .n) x), rw (take-length x) (c .before .pre .1 .0))
 
 sub-i : tie.Need-sub-i Inv-loop μ-loop
 sub-i c = omega arith
