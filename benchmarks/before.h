@@ -5,6 +5,34 @@
 
 #include "../include/arrangements.h"
 
+#ifdef WITH_BEFORE
+/* A family with the fields of that build: a struct by value of another size would be read wrongly. */
+typedef struct {
+    uint64_t kind, n, k;
+} before_family;
+
+static inline before_family before_family_of(arrangement_family f) {
+    before_family g = {f.kind, f.n, f.k};
+    return g;
+}
+
+/* Can it be asked about this family? Only where what it has no field for is the default. */
+static inline int before_answers(arrangement_family f) {
+    return f.floor == 1;
+}
+#else
+typedef arrangement_family before_family;
+
+static inline before_family before_family_of(arrangement_family f) {
+    return f;
+}
+
+static inline int before_answers(arrangement_family f) {
+    (void)f;
+    return 0;
+}
+#endif
+
 #if defined(WITH_BEFORE) && defined(BEFORE_BY_NUMBERS)
 uint32_t before_count(uint64_t kind, uint64_t n, uint64_t k, const uint8_t *counts, size_t letters, uint64_t *value);
 uint32_t before_next(uint64_t kind, uint64_t n, uint64_t k, const uint8_t *counts, size_t letters, uint8_t *object, size_t len);
@@ -18,11 +46,11 @@ uint32_t before_unrank(uint64_t kind, uint64_t n, uint64_t k, const uint8_t *cou
 #define earlier_rank(f, lists, object, len, value) before_rank(BY_NUMBERS(f, lists), object, len, value)
 #define earlier_unrank(rank, f, lists, object, len) before_unrank(BY_NUMBERS(f, lists), rank, object, len)
 #elif defined(WITH_BEFORE)
-uint32_t before_count(arrangement_family f, const arrangement_lists *lists, uint64_t *value);
-uint32_t before_next(arrangement_family f, const arrangement_lists *lists, uint8_t *object, size_t len);
-uint32_t before_previous(arrangement_family f, const arrangement_lists *lists, uint8_t *object, size_t len);
-uint32_t before_rank(arrangement_family f, const arrangement_lists *lists, const uint8_t *object, size_t len, uint64_t *value);
-uint32_t before_unrank(uint64_t rank, arrangement_family f, const arrangement_lists *lists, uint8_t *object, size_t len);
+uint32_t before_count(before_family f, const arrangement_lists *lists, uint64_t *value);
+uint32_t before_next(before_family f, const arrangement_lists *lists, uint8_t *object, size_t len);
+uint32_t before_previous(before_family f, const arrangement_lists *lists, uint8_t *object, size_t len);
+uint32_t before_rank(before_family f, const arrangement_lists *lists, const uint8_t *object, size_t len, uint64_t *value);
+uint32_t before_unrank(uint64_t rank, before_family f, const arrangement_lists *lists, uint8_t *object, size_t len);
 #define earlier_count before_count
 #define earlier_next before_next
 #define earlier_previous before_previous

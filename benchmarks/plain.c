@@ -3,7 +3,7 @@
 #include <stdbool.h>
 #include <string.h>
 
-enum { PLACES = 80, BRANCHES = 40, END = 100 };
+enum { PLACES = 80, BRANCHES = 40, FLOORS = 80, END = 100 };
 
 /* 0 within the triangle stands for 2^64 or more. */
 static uint64_t choose[PLACES + 1][PLACES + 1], blocks[PLACES + 1][PLACES + 1], parts[PLACES + 1][PLACES + 1];
@@ -42,8 +42,8 @@ void plain_prepare(void) {
     }
 }
 
-/* Questions 1 to 3, and the length of the objects. */
-static uint32_t table(uint64_t kind, uint64_t n, uint64_t k, const uint8_t *counts, size_t counts_len, size_t *length) {
+/* Questions 1, 2, 10 and 3, and the length of the objects. */
+static uint32_t table(uint64_t kind, uint64_t n, uint64_t k, uint64_t floor, const uint8_t *counts, size_t counts_len, size_t *length) {
     uint64_t sum = 0;
     switch (kind) {
     case 1: case 4: case 5:
@@ -61,6 +61,7 @@ static uint32_t table(uint64_t kind, uint64_t n, uint64_t k, const uint8_t *coun
     default:
         return 1;
     }
+    if (kind == 5 ? floor == 0 || floor > FLOORS : floor != 1) return 10;
     if (kind != 2) return counts_len == 0 ? 0 : 3;
     if (counts_len != n) return 3;
     for (size_t i = 0; i < counts_len; i++) sum += counts[i];
@@ -68,16 +69,22 @@ static uint32_t table(uint64_t kind, uint64_t n, uint64_t k, const uint8_t *coun
     return sum > PLACES ? 3 : 0;
 }
 
-static bool has_object(uint64_t kind, uint64_t n, uint64_t k) {
+static bool has_object(uint64_t kind, uint64_t n, uint64_t k, uint64_t floor) {
     if (kind == 1) return k <= n;
-    if (kind == 4 || kind == 5) return k <= n && (k > 0 || n == 0);
+    if (kind == 4 || kind == 5) return k * floor <= n && (k > 0 || n == 0);
     return true;
 }
 
+/* k parts of at least p with the sum n. */
+static uint64_t at_least(uint64_t p, uint64_t n, uint64_t k) {
+    uint64_t off = k * (p - 1);
+    return n < off ? 0 : n == off ? k == 0 : parts[n - off][k];
+}
+
 /* The count; false where it is 2^64 or more. */
-static bool count_of(uint64_t kind, uint64_t n, uint64_t k, const uint8_t *counts, size_t counts_len, uint64_t *value) {
+static bool count_of(uint64_t kind, uint64_t n, uint64_t k, uint64_t floor, const uint8_t *counts, size_t counts_len, uint64_t *value) {
     uint64_t sum = 0, words = 1;
-    if (!has_object(kind, n, k)) {
+    if (!has_object(kind, n, k, floor)) {
         *value = 0;
         return true;
     }
@@ -92,7 +99,7 @@ static bool count_of(uint64_t kind, uint64_t n, uint64_t k, const uint8_t *count
         break;
     case 3: *value = factorials[n]; break;
     case 4: *value = n == 0 ? 1 : blocks[n][k]; break;
-    case 5: *value = n == 0 ? 1 : parts[n][k]; break;
+    case 5: *value = at_least(floor, n, k); break;
     default: *value = catalans[n];
     }
     return *value != 0;
@@ -130,10 +137,10 @@ static bool is_set_partition(uint64_t k, const uint8_t *x, size_t len) {
     return used == k;
 }
 
-static bool is_integer_partition(uint64_t n, const uint8_t *x, size_t len) {
+static bool is_integer_partition(uint64_t n, uint64_t floor, const uint8_t *x, size_t len) {
     uint64_t sum = 0;
     for (size_t i = 0; i < len; i++) {
-        if (x[i] == 0 || (i > 0 && x[i] > x[i - 1])) return false;
+        if (x[i] < floor || (i > 0 && x[i] > x[i - 1])) return false;
         sum += x[i];
     }
     return sum == n;
@@ -149,13 +156,13 @@ static bool is_dyck_word(const uint8_t *x, size_t len) {
     return height == 0;
 }
 
-static bool is_object(uint64_t kind, uint64_t n, uint64_t k, const uint8_t *counts, size_t counts_len, const uint8_t *x, size_t len) {
+static bool is_object(uint64_t kind, uint64_t n, uint64_t k, uint64_t floor, const uint8_t *counts, size_t counts_len, const uint8_t *x, size_t len) {
     switch (kind) {
     case 1: return is_subset(n, x, len);
     case 2: return is_anagram(counts, counts_len, x, len);
     case 3: return is_permutation(x, len);
     case 4: return is_set_partition(k, x, len);
-    case 5: return is_integer_partition(n, x, len);
+    case 5: return is_integer_partition(n, floor, x, len);
     default: return is_dyck_word(x, len);
     }
 }
@@ -270,9 +277,9 @@ static uint32_t next_integer_partition(uint8_t *x, size_t k) {
     return 0;
 }
 
-static uint32_t previous_integer_partition(uint8_t *x, size_t k) {
+static uint32_t previous_integer_partition(uint64_t floor, uint8_t *x, size_t k) {
     size_t sum = 0, i = 1;
-    while (i < k && x[i] <= (i + 1 < k ? x[i + 1] : 1)) i++;
+    while (i < k && x[i] <= (i + 1 < k ? x[i + 1] : floor)) i++;
     if (i >= k) return END;
     for (size_t j = 0; j < i; j++) sum += x[j];
     sum++;
@@ -334,13 +341,13 @@ static bool dyck_back(uint8_t *x, size_t len, const uint8_t *inside) {
     return true;
 }
 
-static uint32_t step(bool on, uint64_t kind, uint64_t n, uint8_t *x, size_t len) {
+static uint32_t step(bool on, uint64_t kind, uint64_t n, uint64_t floor, uint8_t *x, size_t len) {
     uint8_t inside[2 * BRANCHES];
     switch (kind) {
     case 1: return on ? next_subset(n, x, len) : previous_subset(x, len);
     case 2: case 3: return on ? next_word(x, len) : previous_word(x, len);
     case 4: return on ? next_set_partition(x, len) : previous_set_partition(x, len);
-    case 5: return on ? next_integer_partition(x, len) : previous_integer_partition(x, len);
+    case 5: return on ? next_integer_partition(x, len) : previous_integer_partition(floor, x, len);
     default:
         insides(x, len, inside);
         return (on ? dyck_on : dyck_back)(x, len, inside) ? 0 : END;
@@ -408,14 +415,8 @@ static void unrank_set_partition(uint64_t k, uint64_t rank, uint8_t *x, size_t n
     }
 }
 
-/* k parts of at least p with the sum n. */
-static uint64_t at_least(uint64_t p, uint64_t n, uint64_t k) {
-    uint64_t off = k * (p - 1);
-    return n < off ? 0 : n == off ? k == 0 : parts[n - off][k];
-}
-
-static uint64_t rank_integer_partition(uint64_t n, const uint8_t *x, size_t k) {
-    uint64_t rank = 0, floor = 1;
+static uint64_t rank_integer_partition(uint64_t n, uint64_t floor, const uint8_t *x, size_t k) {
+    uint64_t rank = 0;
     for (; k > 0; k--) {
         rank += at_least(floor, n, k) - at_least(x[k - 1], n, k);
         floor = x[k - 1];
@@ -424,8 +425,7 @@ static uint64_t rank_integer_partition(uint64_t n, const uint8_t *x, size_t k) {
     return rank;
 }
 
-static void unrank_integer_partition(uint64_t n, uint64_t rank, uint8_t *x, size_t k) {
-    uint64_t floor = 1;
+static void unrank_integer_partition(uint64_t n, uint64_t floor, uint64_t rank, uint8_t *x, size_t k) {
     for (; k > 0; k--) {
         uint64_t p = floor, all = at_least(floor, n, k), more;
         while (more = at_least(p + 1, n, k), all - more <= rank) p++;
@@ -458,7 +458,7 @@ static void unrank_dyck(uint64_t rank, uint8_t *x, size_t len) {
     unrank_dyck(rank % catalans[m - j], x + 2 * j + 2, 2 * (m - j));
 }
 
-static uint64_t rank_of(uint64_t kind, uint64_t n, uint64_t k, const uint8_t *counts, uint64_t count, const uint8_t *x, size_t len) {
+static uint64_t rank_of(uint64_t kind, uint64_t n, uint64_t k, uint64_t floor, const uint8_t *counts, uint64_t count, const uint8_t *x, size_t len) {
     uint8_t work[PLACES];
     uint64_t rank = 0;
     switch (kind) {
@@ -468,14 +468,14 @@ static uint64_t rank_of(uint64_t kind, uint64_t n, uint64_t k, const uint8_t *co
     case 2: memcpy(work, counts, n); return rank_word(work, count, x, len);
     case 3: memset(work, 1, n); return rank_word(work, count, x, len);
     case 4: return rank_set_partition(k, x, len);
-    case 5: return rank_integer_partition(n, x, len);
+    case 5: return rank_integer_partition(n, floor, x, len);
     default:
         insides(x, len, work);
         return rank_dyck(x, len, work);
     }
 }
 
-static void unrank_of(uint64_t kind, uint64_t n, uint64_t k, const uint8_t *counts, uint64_t count, uint64_t rank, uint8_t *x, size_t len) {
+static void unrank_of(uint64_t kind, uint64_t n, uint64_t k, uint64_t floor, const uint8_t *counts, uint64_t count, uint64_t rank, uint8_t *x, size_t len) {
     uint8_t work[PLACES];
     size_t top = n;
     switch (kind) {
@@ -489,63 +489,63 @@ static void unrank_of(uint64_t kind, uint64_t n, uint64_t k, const uint8_t *coun
     case 2: memcpy(work, counts, n); unrank_word(work, count, rank, x, len); break;
     case 3: memset(work, 1, n); unrank_word(work, count, rank, x, len); break;
     case 4: unrank_set_partition(k, rank, x, len); break;
-    case 5: unrank_integer_partition(n, rank, x, len); break;
+    case 5: unrank_integer_partition(n, floor, rank, x, len); break;
     default: unrank_dyck(rank, x, len);
     }
 }
 
 /* The calls. */
 
-uint32_t plain_count(uint64_t kind, uint64_t n, uint64_t k, const uint8_t *counts, size_t counts_len, uint64_t *value) {
+uint32_t plain_count(uint64_t kind, uint64_t n, uint64_t k, uint64_t floor, const uint8_t *counts, size_t counts_len, uint64_t *value) {
     size_t length;
     uint64_t count;
-    uint32_t no = table(kind, n, k, counts, counts_len, &length);
+    uint32_t no = table(kind, n, k, floor, counts, counts_len, &length);
     if (no) return no;
-    if (!count_of(kind, n, k, counts, counts_len, &count)) return 5;
+    if (!count_of(kind, n, k, floor, counts, counts_len, &count)) return 5;
     *value = count;
     return 0;
 }
 
-static uint32_t stepped(bool on, uint64_t kind, uint64_t n, uint64_t k, const uint8_t *counts, size_t counts_len, uint8_t *object, size_t object_len) {
+static uint32_t stepped(bool on, uint64_t kind, uint64_t n, uint64_t k, uint64_t floor, const uint8_t *counts, size_t counts_len, uint8_t *object, size_t object_len) {
     size_t length;
-    uint32_t no = table(kind, n, k, counts, counts_len, &length);
+    uint32_t no = table(kind, n, k, floor, counts, counts_len, &length);
     if (no) return no;
-    if (!has_object(kind, n, k)) return 4;
+    if (!has_object(kind, n, k, floor)) return 4;
     if (object_len != length) return 6;
-    if (!is_object(kind, n, k, counts, counts_len, object, object_len)) return 7;
-    return step(on, kind, n, object, object_len);
+    if (!is_object(kind, n, k, floor, counts, counts_len, object, object_len)) return 7;
+    return step(on, kind, n, floor, object, object_len);
 }
 
-uint32_t plain_next(uint64_t kind, uint64_t n, uint64_t k, const uint8_t *counts, size_t counts_len, uint8_t *object, size_t object_len) {
-    return stepped(true, kind, n, k, counts, counts_len, object, object_len);
+uint32_t plain_next(uint64_t kind, uint64_t n, uint64_t k, uint64_t floor, const uint8_t *counts, size_t counts_len, uint8_t *object, size_t object_len) {
+    return stepped(true, kind, n, k, floor, counts, counts_len, object, object_len);
 }
 
-uint32_t plain_previous(uint64_t kind, uint64_t n, uint64_t k, const uint8_t *counts, size_t counts_len, uint8_t *object, size_t object_len) {
-    return stepped(false, kind, n, k, counts, counts_len, object, object_len);
+uint32_t plain_previous(uint64_t kind, uint64_t n, uint64_t k, uint64_t floor, const uint8_t *counts, size_t counts_len, uint8_t *object, size_t object_len) {
+    return stepped(false, kind, n, k, floor, counts, counts_len, object, object_len);
 }
 
-uint32_t plain_rank(uint64_t kind, uint64_t n, uint64_t k, const uint8_t *counts, size_t counts_len, const uint8_t *object, size_t object_len, uint64_t *value) {
+uint32_t plain_rank(uint64_t kind, uint64_t n, uint64_t k, uint64_t floor, const uint8_t *counts, size_t counts_len, const uint8_t *object, size_t object_len, uint64_t *value) {
     size_t length;
     uint64_t count;
-    uint32_t no = table(kind, n, k, counts, counts_len, &length);
+    uint32_t no = table(kind, n, k, floor, counts, counts_len, &length);
     if (no) return no;
-    if (!has_object(kind, n, k)) return 4;
-    if (!count_of(kind, n, k, counts, counts_len, &count)) return 5;
+    if (!has_object(kind, n, k, floor)) return 4;
+    if (!count_of(kind, n, k, floor, counts, counts_len, &count)) return 5;
     if (object_len != length) return 6;
-    if (!is_object(kind, n, k, counts, counts_len, object, object_len)) return 7;
-    *value = rank_of(kind, n, k, counts, count, object, object_len);
+    if (!is_object(kind, n, k, floor, counts, counts_len, object, object_len)) return 7;
+    *value = rank_of(kind, n, k, floor, counts, count, object, object_len);
     return 0;
 }
 
-uint32_t plain_unrank(uint64_t kind, uint64_t n, uint64_t k, const uint8_t *counts, size_t counts_len, uint64_t rank, uint8_t *object, size_t object_len) {
+uint32_t plain_unrank(uint64_t kind, uint64_t n, uint64_t k, uint64_t floor, const uint8_t *counts, size_t counts_len, uint64_t rank, uint8_t *object, size_t object_len) {
     size_t length;
     uint64_t count;
-    uint32_t no = table(kind, n, k, counts, counts_len, &length);
+    uint32_t no = table(kind, n, k, floor, counts, counts_len, &length);
     if (no) return no;
-    if (!has_object(kind, n, k)) return 4;
-    if (!count_of(kind, n, k, counts, counts_len, &count)) return 5;
+    if (!has_object(kind, n, k, floor)) return 4;
+    if (!count_of(kind, n, k, floor, counts, counts_len, &count)) return 5;
     if (object_len != length) return 6;
     if (rank >= count) return 8;
-    unrank_of(kind, n, k, counts, count, rank, object, object_len);
+    unrank_of(kind, n, k, floor, counts, count, rank, object, object_len);
     return 0;
 }

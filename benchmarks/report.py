@@ -129,6 +129,14 @@ def subset_ranks(limit):
     say(*[f"  - missed: {r[2]} ({r[0]:.3f})" for r in rows if r[0] > limit])
 
 
+def floor_targets(limit):
+    """Of each call on families with a floor, the largest ratio by instructions; what lies above the limit."""
+    rows = [(counts[(f, p, c, "library")] / counts[(f, p, c, "plain")], c, f) for f, p in families for c in calls[1:] if ", floor " in f]
+    largest = ", ".join(f"{c} {max(r for r, call, _ in rows if call == c):.2f}" for c in calls[1:])
+    say(f"- Integer partitions with a floor at most {limit} times plain C by instructions: largest {largest}.")
+    say(*[f"  - missed: {c} of {f} ({r:.2f})" for r, c, f in rows if r > limit])
+
+
 def worst(group, limit):
     """The largest ratio of a group of calls, by time and by instructions, and what lies above the limit."""
     rows = []
@@ -169,6 +177,7 @@ def targets():
     walk_targets("6 Dyck words 36", 2.2)
     jump_targets(1.3)
     subset_ranks(1.7)
+    floor_targets(2)
 
 
 say("# Benchmarks", "", f"Written by `benchmarks/run` on {datetime.date.today()}: {shell('lscpu | sed -n s/^Model.name:[[:space:]]*//p')}, {shell('gcc --version | head -1')}, -O2.", "")
@@ -179,7 +188,7 @@ say("Method. `benchmarks/measure.c` calls the library (`rt staticlib arrangement
     "GSL's steps follow its validity check and go by dictionary; SymPy's are its nearest functions (all partitions rather than those with k parts;",
     "its subsets' rank, which lists, only for the small family). PARI's are numtoperm and permtonum, GAP's is Binomial.",
     *(["Before is an earlier build of the library, linked beside today's and measured in turn with it. Both begin on a page, so that code that is the",
-       "same lies the same: elsewhere within a line of 64 bytes it takes up to a quarter more."] if earlier else []), "")
+       "same lies the same: elsewhere within a line of 64 bytes it takes up to a quarter more. It knows no floor but 1."] if earlier else []), "")
 say("## Targets", "")
 targets()
 say("", "Why, by the profile:", "",

@@ -1,4 +1,4 @@
-/* A number for an arrangement, the arrangement for a number, one step on and back, a walk, jumps. Build and run: examples/c/run */
+/* A number for an arrangement, the arrangement for a number, one step on and back, a walk, jumps, a floor. Build and run: examples/c/run */
 #include <inttypes.h>
 #include <stdio.h>
 #include <string.h>
@@ -26,6 +26,27 @@ static int jumps(arrangement_family trees, const arrangement_lists *lists, uint8
         return 1;
     show("too far back: END, and it stays", tree, 7);
     return 0;
+}
+
+/* All partitions of 9 into 3 parts of at least 2, and a floor that is refused; 0, or 1 where an answer is another. */
+static int floors(void)
+{
+    arrangement_family partitions = arrangement_family_of(5, 9, 3);
+    const arrangement_lists none = arrangement_no_lists();
+    uint8_t parts[3];
+
+    partitions.floor = 2;
+    uint32_t code = arrangement_first(partitions, &none, parts, 3);
+    while (code == ARRANGEMENT_DONE) {
+        show("9 into 3 parts of at least 2", parts, 3);
+        code = arrangement_next(partitions, &none, parts, 3);
+    }
+    if (code != ARRANGEMENT_END)
+        return 1;
+    partitions.floor = 81;
+    code = arrangement_first(partitions, &none, parts, 3);
+    printf("floor 81 is refused by question %" PRIu32 "\n", code);
+    return code == ARRANGEMENT_REFUSED_FLOOR ? 0 : 1;
 }
 
 int main(void)
@@ -68,7 +89,7 @@ int main(void)
         show(what, tree, 7);
     }
 
-    if (jumps(trees, &lists, tree) != 0)
+    if (jumps(trees, &lists, tree) != 0 || floors() != 0)
         return 1;
 
     /* A number that no arrangement has is refused by its question, 8, and the tree stays. */

@@ -5,7 +5,8 @@ crates/test_calls/src/main.rt has the form of a case and the letters. The librar
     python3 tests/expected/calls.py"""
 from itertools import product
 
-from families import BRANCHES, FITS, PLACES, Filtered, Ranks, family, length, name, refusal
+from families import BRANCHES, FLOORS, PLACES, Filtered, Ranks, count, family, full_name, length, name, refusal
+from samples import BELOW_FLOOR, FLOORS_MISSED, LARGE_FLOORS, LARGEST, WRONG_FLOORS, some_bytes
 from texts import words, write
 
 CALLS = {"c": "COUNT", "r": "RANK", "f": "FIRST", "l": "LAST", "n": "NEXT", "p": "PREVIOUS", "u": "UNRANK"}
@@ -89,9 +90,7 @@ def printed(label, letters, rank, buffer):
 
 def case(label, letters, rank, f, x):
     """The line of a case; what is empty at its end is left out."""
-    kind, n, k, counts = f
-    line = f"{label}: {letters} {rank} / {kind} {n} {k} /{words(x)} /{words(counts)}"
-    return line.rstrip(" /")
+    return f"{label}: {letters} {rank} /{words(f.numbers())} /{words(x)} /{words(f.counts)}".rstrip(" /")
 
 
 def small_families():
@@ -104,11 +103,10 @@ def small_families():
 
 def refusals():
     up = lambda n: range(1, n + 1)
-    largest = FITS - 1
     cases = [
         (1, "", family(0, 4, 2), up(2), 0),
         (1, "", family(7, 4, 2), up(2), 0),
-        (1, "", family(largest, 4, 2), up(2), 0),
+        (1, "", family(LARGEST, 4, 2), up(2), 0),
         (2, "", family(1, PLACES + 1, 2), up(2), 0),
         (2, "", family(1, 4, PLACES + 1), up(2), 0),
         (2, "", family(3, 4, 1), up(4), 0),
@@ -127,7 +125,7 @@ def refusals():
         (7, "", family(5, 7, 3), up(3), 0),
         (7, "", family(4, 4, 2), up(4), 0),
         (8, " with rank 6", family(1, 4, 2), up(2), 6),
-        (8, f" with rank {largest}", family(1, 4, 2), up(2), largest),
+        (8, f" with rank {LARGEST}", family(1, 4, 2), up(2), LARGEST),
         (8, " with its last rank", family(1, 4, 2), up(2), 5),
     ]
     return [(f"question {q}, {name(f)}{more}", "crnpulf", rank, f, list(x), Ranks) for q, more, f, x, rank in cases]
@@ -148,6 +146,33 @@ def listings():
     fs += [family(2, len(counts), 0, counts) for counts in ((), (0,), (3,), (2, 1), (1, 0, 2), (1, 1, 1), (2, 2))]
     fs += [family(3, n) for n in (0, 1, 3, 4)]
     return [(name(f), "az", 0, f, [0] * length(f), Filtered) for f in fs]
+
+
+def small_floors():
+    """Walked both ways and through the ranks where there is an object."""
+    fs = [family(5, n, k, floor=floor) for floor in range(2, 6) for n in range(10) for k in range(n + 2)]
+    # at n and beyond it
+    fs += [family(5, n, 1, floor=floor) for n in range(6, 10) for floor in (n, n + 1)]
+    fs += [family(5, n, k, floor=FLOORS) for n in range(2) for k in range(2)]
+    return [(name(f), "cwbt" if count(f) else "c", 0, f, [0] * length(f), Filtered) for f in fs]
+
+
+def large_floors():
+    """Steps from both ends; then the first object, one in the middle and the last, by their ranks, and steps round them."""
+    for f in LARGE_FLOORS:
+        yield name(f), "c><", 0, f, [0] * length(f), Ranks
+        for r in sorted({0, count(f) // 2, count(f) - 1}):
+            yield f"{name(f)} from {r}", "Urnpp", r, f, [0] * length(f), Ranks
+
+
+def refused_floors():
+    """COUNT and RANK of every family, and every call of some; all other calls of every family are test_replay's."""
+    for f, x in WRONG_FLOORS:
+        yield f"question 10, {name(f)}", "crnpulf" if f.kind == 5 or f.floor == 2 else "cr", 0, f, x, Ranks
+    for q, f in FLOORS_MISSED:
+        yield f"question {q}, {full_name(f)}", "crnpulf" if q == 4 else "cr", 0, f, some_bytes(f), Ranks
+    for f, x in BELOW_FLOOR:
+        yield f"question 7, {name(f)} at{words(x)}", "rnp", 0, f, x, Ranks
 
 
 # Typed from the sources, the answers too: source and number, letter, family, what is lent or the rank, the answer.
@@ -198,6 +223,7 @@ def published():
 
 def main():
     made = {"small_families": small_families(), "refusals": refusals(), "large_families": large_families(), "listings": listings()}
+    made["floors"] = [*small_floors(), *large_floors(), *refused_floors()]
     expected = []
     for file in open("crates/test_calls/args").read().split():
         if file == "published":

@@ -1,50 +1,70 @@
-"""The six families of paper 01, written from its words and not from the library: the table's bounds and tests, "Which of two objects comes
-first" as comparisons, and the questions in their order. Two listings: `Filtered`, all strings that pass the table's test, sorted by the
-comparison, for small families; and `Ranks`, objects by rank, counted place by place as 000 and 004 do, for large ones, where the order rests
-on the same recursion as the library's listings."""
+"""The six families of paper 01, with the floor of paper 02, written from their words and not from the library: the table's bounds and tests,
+"Which of two objects comes first" as comparisons, and the questions in their order. Two listings: `Filtered`, all strings that pass the table's
+test, sorted by the comparison, for small families; and `Ranks`, objects by rank, counted place by place as 000 and 004 do, for large ones,
+where the order rests on the same recursion as the library's listings."""
 from functools import cache, cmp_to_key
-from itertools import product
+from itertools import combinations_with_replacement, product
 from math import comb, factorial
+from typing import NamedTuple
 
-PLACES, BRANCHES = 80, 40
+PLACES, BRANCHES, FLOORS = 80, 40, 80
 FITS = 2**64
 NAMES = {1: "subsets", 2: "anagrams", 3: "permutations", 4: "set partitions", 5: "integer partitions", 6: "Dyck words"}
 
 
-def family(kind, n, k=0, counts=()):
+class Family(NamedTuple):
     """A family with everything lent beside it."""
-    return (kind, n, k, tuple(counts))
+
+    kind: int
+    n: int
+    k: int
+    counts: tuple
+    floor: int = 1
+
+    def numbers(self):
+        """The numbers passed by value, in their order."""
+        return self.kind, self.n, self.k, self.floor
+
+
+def family(kind, n, k=0, counts=(), **more):
+    return Family(kind, n, k, tuple(counts), **more)
 
 
 def name(f):
-    """How a label calls the family."""
-    kind, n, k, counts = f
-    if kind == 2:
-        return f"{NAMES[2]} of {' '.join(map(str, counts)) or 'no letters'}"
-    return f"{NAMES.get(kind, f'kind {kind}')} {n} {k}" if kind not in (3, 6) or k else f"{NAMES[kind]} {n}"
+    """How a label calls the family: with its floor only where that isn't 1."""
+    if f.kind == 2:
+        called = f"{NAMES[2]} of {' '.join(map(str, f.counts)) or 'no letters'}"
+    else:
+        called = f"{NAMES.get(f.kind, f'kind {f.kind}')} {f.n}" + (f" {f.k}" if f.kind not in (3, 6) or f.k else "")
+    return called if f.floor == 1 else f"{called} with floor {f.floor}"
+
+
+def full_name(f):
+    """The same with what it leaves out: counts beside a kind that has none, n beside counts."""
+    lent = f" with n {f.n}" if f.kind == 2 else f" with the counts {' '.join(map(str, f.counts))}" if f.counts else ""
+    return name(f) + lent
 
 
 def length(f):
-    kind, n, k, counts = f
-    return {1: k, 2: sum(counts), 3: n, 4: n, 5: k, 6: 2 * n}[kind]
+    return {1: f.k, 2: sum(f.counts), 3: f.n, 4: f.n, 5: f.k, 6: 2 * f.n}[f.kind]
 
 
 def is_object(f, x):
-    """The column "object" of the table."""
-    kind, n, k, counts = f
+    """The column "object" of the table, and of kind 5 "every part .. is at least that floor"."""
+    kind, n, k = f.kind, f.n, f.k
     if len(x) != length(f):
         return False
     if kind == 1:
         return all(1 <= b <= n for b in x) and all(a < b for a, b in zip(x, x[1:]))
     if kind == 2:
-        return all(1 <= b <= n for b in x) and all(x.count(i + 1) == c for i, c in enumerate(counts))
+        return all(1 <= b <= n for b in x) and all(x.count(i + 1) == c for i, c in enumerate(f.counts))
     if kind == 3:
         return sorted(x) == list(range(1, n + 1))
     if kind == 4:
         smallest = [x.index(b) if b in x else None for b in range(1, k + 1)]
         return set(x) == set(range(1, k + 1)) and smallest == sorted(smallest)
     if kind == 5:
-        return all(b >= 1 for b in x) and all(a >= b for a, b in zip(x, x[1:])) and sum(x) == n
+        return all(b >= f.floor for b in x) and all(a >= b for a, b in zip(x, x[1:])) and sum(x) == n
     return set(x) <= {0, 1} and x.count(1) == x.count(0) and all(x[:i].count(0) <= x[:i].count(1) for i in range(len(x)))
 
 
@@ -71,15 +91,14 @@ def plan_order(x, y):
 
 def compare(f, x, y):
     """Below 0 where x comes first; both are objects of the family."""
-    kind = f[0]
-    if kind == 6:
+    if f.kind == 6:
         return plan_order(x, y)
-    if kind == 4:
+    if f.kind == 4:
         x, y = keys(x), keys(y)
     places = [i for i in range(len(x)) if x[i] != y[i]]
     if not places:
         return 0
-    i = places[0] if kind in (2, 3) else places[-1]
+    i = places[0] if f.kind in (2, 3) else places[-1]
     return x[i] - y[i]
 
 
@@ -90,15 +109,20 @@ def stirling(n, k):
 
 
 @cache
-def partitions(n, k):
-    """Partitions of n into k parts: one part taken off each leaves n - k in parts of at most k."""
-    if n < k:
-        return 0
-    ways = [1] + [0] * (n - k)
-    for part in range(1, k + 1):
-        for m in range(part, n - k + 1):
-            ways[m] += ways[m - part]
-    return ways[n - k]
+def ways(floor):
+    """The partitions into parts from the floor up, by the number of parts and the sum: one part size after the other, one part more at a time."""
+    found = [[0] * (PLACES + 1) for _ in range(PLACES + 1)]
+    found[0][0] = 1
+    for size in range(floor, PLACES + 1):
+        for parts in range(1, PLACES // floor + 1):
+            for n in range(size, PLACES + 1):
+                found[parts][n] += found[parts - 1][n - size]
+    return found
+
+
+def partitions(n, k, floor):
+    """Partitions of n into k parts of at least the floor."""
+    return ways(floor)[k][n]
 
 
 def catalan(n):
@@ -113,23 +137,29 @@ def multinomial(counts):
 
 
 def count(f):
-    kind, n, k, counts = f
     return {
-        1: lambda: comb(n, k),
-        2: lambda: multinomial(counts),
-        3: lambda: factorial(n),
-        4: lambda: stirling(n, k),
-        5: lambda: partitions(n, k),
-        6: lambda: catalan(n),
-    }[kind]()
+        1: lambda: comb(f.n, f.k),
+        2: lambda: multinomial(f.counts),
+        3: lambda: factorial(f.n),
+        4: lambda: stirling(f.n, f.k),
+        5: lambda: partitions(f.n, f.k, f.floor),
+        6: lambda: catalan(f.n),
+    }[f.kind]()
+
+
+def strings(f):
+    """All that can pass the table's test; of kind 5, where they would be too many, the weakly descending ones alone."""
+    if f.kind == 5:
+        return combinations_with_replacement(range(f.n, -1, -1), length(f))
+    return product(range({4: f.k, 6: 1}.get(f.kind, f.n) + 1), repeat=length(f))
 
 
 class Filtered:
     """The listing by trying all strings: for small families."""
 
     def __init__(self, f):
-        top = {4: f[2], 6: 1}.get(f[0], f[1])
-        found = [x for x in product(range(top + 1), repeat=length(f)) if is_object(f, x)]
+        found = [x for x in strings(f) if is_object(f, x)]
+        assert len(found) == count(f)
         self.objects = sorted(found, key=cmp_to_key(lambda x, y: compare(f, x, y)))
 
     def count(self):
@@ -152,13 +182,16 @@ class Ranks:
         return count(self.f)
 
     def object(self, r):
-        kind, n, k, counts = self.f
-        if kind == 1:
-            x = subset(n, k, r)
-        elif kind in (2, 3):
-            x = word(counts if kind == 2 else (1,) * n, r)
-        else:
-            x = {4: set_partition, 5: integer_partition, 6: plan}[kind](n, k, r)
+        f = self.f
+        assert 0 <= r < self.count()
+        x = {
+            1: lambda: subset(f.n, f.k, r),
+            2: lambda: word(f.counts, r),
+            3: lambda: word((1,) * f.n, r),
+            4: lambda: set_partition(f.n, f.k, r),
+            5: lambda: integer_partition(f.n, f.k, f.floor, r),
+            6: lambda: plan(f.n, r),
+        }[f.kind]()
         self.known = {x: r}
         return x
 
@@ -211,21 +244,18 @@ def set_partition(n, k, r):
     return x
 
 
-def integer_partition(n, k, r):
-    """The last part is v: take v - 1 off each part, and partitions of what is left that end in 1 are those into k - 1 parts."""
-    x, floor = (), 1
+def integer_partition(n, k, floor, r):
+    """The last part decides first, and is the floor of those before it."""
+    x = ()
     while k:
-        v = floor
-        while True:
-            m = partitions(n - v - (v - 1) * (k - 1), k - 1) if n - v - (v - 1) * (k - 1) >= 0 else 0
-            if r < m:
-                break
-            r, v = r - m, v + 1
-        x, n, k, floor = (v,) + x, n - v, k - 1, v
+        while r >= partitions(n - floor, k - 1, floor):
+            r -= partitions(n - floor, k - 1, floor)
+            floor += 1
+        x, n, k = (floor,) + x, n - floor, k - 1
     return x
 
 
-def plan(n, _, r):
+def plan(n, r):
     if n == 0:
         return ()
     inside = 0
@@ -233,23 +263,31 @@ def plan(n, _, r):
         r -= catalan(inside) * catalan(n - 1 - inside)
         inside += 1
     a, b = divmod(r, catalan(n - 1 - inside))
-    return (1,) + plan(inside, 0, a) + (0,) + plan(n - 1 - inside, 0, b)
+    return (1,) + plan(inside, a) + (0,) + plan(n - 1 - inside, b)
 
 
 def within(f):
-    kind, n, k, _ = f
-    return 0 <= n <= (BRANCHES if kind == 6 else PLACES) and (k == 0 if kind in (2, 3, 6) else 0 <= k <= PLACES)
+    return 0 <= f.n <= (BRANCHES if f.kind == 6 else PLACES) and (f.k == 0 if f.kind in (2, 3, 6) else 0 <= f.k <= PLACES)
+
+
+def not_allowed(f):
+    """Of the questions that are put to every call, the number of the first to which the answer is no, or 0."""
+    if not 1 <= f.kind <= 6:
+        return 1
+    if not within(f):
+        return 2
+    if not (1 <= f.floor <= FLOORS if f.kind == 5 else f.floor == 1):
+        return 10
+    if (len(f.counts) != f.n or sum(f.counts) > PLACES) if f.kind == 2 else f.counts:
+        return 3
+    return 0
 
 
 def refusal(call, f, x, rank=0, holds=None):
     """The number of the first question to which the answer is no, or 0. `x`: the lent bytes; `holds`: the answer to 7, where x doesn't tell it."""
-    kind, n, k, counts = f
-    if not 1 <= kind <= 6:
-        return 1
-    if not within(f):
-        return 2
-    if (len(counts) != n or sum(counts) > PLACES) if kind == 2 else counts:
-        return 3
+    no = not_allowed(f)
+    if no:
+        return no
     if call != "COUNT" and count(f) == 0:
         return 4
     if call in ("COUNT", "RANK", "UNRANK") and count(f) >= FITS:

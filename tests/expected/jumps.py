@@ -6,7 +6,8 @@ on the listings of families.py, with Python's integers.
     python3 tests/expected/jumps.py"""
 from functools import cache
 
-from families import BRANCHES, FITS, PLACES, Filtered, Ranks, count, family, length, name, refusal
+from families import BRANCHES, FITS, PLACES, Filtered, Ranks, count, family, full_name, length, name, refusal
+from samples import BELOW_FLOOR, FLOORS_MISSED, LARGE_FLOORS, SAMPLES, SMALL_FLOORS, WRONG_FLOORS, some_bytes
 from texts import words, write_program
 
 SMALLEST, LARGEST = -(2**63), 2**63 - 1
@@ -36,11 +37,10 @@ class Case:
     def __init__(self, label, f, x, first, last=None):
         self.label, self.f, self.x, self.first, self.last = label, f, tuple(x), first, first if last is None else last
         assert SMALLEST <= self.first <= self.last <= LARGEST
-        assert not set(label) & set(":;/") and len(self.x) <= MOST and len(f[3]) <= MOST
+        assert not set(label) & set(":;/") and len(self.x) <= MOST and len(f.counts) <= MOST
 
     def line(self):
-        kind, n, k, counts = self.f
-        return f"{self.label}: {kind} {n} {k} / {self.first} {self.last} /{words(self.x)} /{words(counts)}"
+        return f"{self.label}:{words(self.f.numbers())} / {self.first} {self.last} /{words(self.x)} /{words(self.f.counts)}"
 
     def printed(self):
         text = ""
@@ -59,14 +59,8 @@ def from_rank(f, r, first, last=None):
     return Case(f"{name(f)} from {r}", f, listing(f).object(r), first, last)
 
 
-def small_families():
+def everywhere(fs):
     """From every object, to every object and beyond both ends."""
-    fs = [family(1, n, k) for n, k in ((0, 0), (5, 0), (1, 1), (5, 5), (3, 1), (4, 2), (7, 6), (5, 3), (6, 3))]
-    fs += [family(2, len(counts), 0, counts) for counts in ((), (0,), (0, 0), (3,), (2, 1), (1, 0, 2), (2, 2), (1, 2, 1), (3, 3))]
-    fs += [family(3, n) for n in range(5)]
-    fs += [family(4, n, k) for n, k in ((0, 0), (1, 1), (4, 1), (3, 3), (3, 2), (4, 2), (5, 4), (5, 2))]
-    fs += [family(5, n, k) for n, k in ((0, 0), (4, 1), (4, 4), (5, 2), (7, 3), (10, 3), (12, 4))]
-    fs += [family(6, n) for n in range(5)]
     for f in fs:
         many = listing(f).count()
         assert many == count(f) <= 24
@@ -74,8 +68,16 @@ def small_families():
             yield from_rank(f, r, -many - 2, many + 2)
 
 
-# one of each kind
-SAMPLES = family(1, 4, 2), family(2, 2, 0, (2, 1)), family(3, 3), family(4, 4, 2), family(5, 7, 3), family(6, 3)
+def small_families():
+    fs = [family(1, n, k) for n, k in ((0, 0), (5, 0), (1, 1), (5, 5), (3, 1), (4, 2), (7, 6), (5, 3), (6, 3))]
+    fs += [family(2, len(counts), 0, counts) for counts in ((), (0,), (0, 0), (3,), (2, 1), (1, 0, 2), (2, 2), (1, 2, 1), (3, 3))]
+    fs += [family(3, n) for n in range(5)]
+    fs += [family(4, n, k) for n, k in ((0, 0), (1, 1), (4, 1), (3, 3), (3, 2), (4, 2), (5, 4), (5, 2))]
+    fs += [family(5, n, k) for n, k in ((0, 0), (4, 1), (4, 4), (5, 2), (7, 3), (10, 3), (12, 4))]
+    fs += [family(6, n) for n in range(5)]
+    yield from everywhere(fs)
+
+
 # one object each
 ALONE = tuple(family(*f) for f in ((1, 5, 0), (1, 5, 5), (2, 0), (2, 1, 0, (3,)), (3, 0), (3, 1), (4, 0, 0), (5, 0, 0), (6, 0)))
 
@@ -124,6 +126,14 @@ def half_way(f):
     yield from ((0, LARGEST), (last, SMALLEST), (last, -LARGEST))
 
 
+def far_and_half_way(fs, drawn):
+    for f in fs:
+        assert count(f) < FITS
+        wanted = far(f, drawn) + (list(half_way(f)) if count(f) > 2**63 else [])
+        for r, *distances in dict.fromkeys(wanted):
+            yield from_rank(f, r, *distances)
+
+
 def large_families():
     fs = [family(1, n, k) for n, k in ((67, 33), (80, 21), (80, 3), (80, 80))]
     fs += [family(2, len(counts), 0, counts) for counts in ((33, 34), (0, 6, 0, 7, 8), (78, 2))]
@@ -131,12 +141,7 @@ def large_families():
     fs += [family(4, n, k) for n, k in ((65, 2), (26, 9), (80, 79))]
     fs += [family(5, n, k) for n, k in ((80, 18), (80, 70), (80, 3))]
     fs += [family(6, 36)]
-    drawn = in_no_order(2)
-    for f in fs:
-        assert count(f) < FITS
-        wanted = far(f, drawn) + (list(half_way(f)) if count(f) > 2**63 else [])
-        for r, *distances in dict.fromkeys(wanted):
-            yield from_rank(f, r, *distances)
+    yield from far_and_half_way(fs, in_no_order(2))
     # sums that are ranks again where they lose a bit
     f = family(4, 65, 2)
     last = count(f) - 1
@@ -144,13 +149,6 @@ def large_families():
     yield from_rank(f, 0, -3, 3)
     yield from_rank(f, last, -3, 3)
     yield from_rank(f, last, LARGEST)
-
-
-def some_bytes(f):
-    """An object where there is one, else 1, 2, .. as many as the table says."""
-    if refusal("FIRST", f, ()) in (0, 6):
-        return listing(f).object(0)
-    return tuple(range(1, 1 + (min(length(f), PLACES) if 1 <= f[0] <= 6 else f[2])))
 
 
 def missing():
@@ -179,13 +177,12 @@ def refused(label, q, f, x):
 
 def refusals():
     for q, f in missing():
-        lent = f" with the counts{words(f[3])}" if f[3] and f[0] != 2 else f" with n {f[1]}" if f[0] == 2 else ""
         x = some_bytes(f)
-        yield from refused(f"{name(f)}{lent}", q, f, x)
+        yield from refused(full_name(f), q, f, x)
         # 6, or 7, behind it
-        yield from refused(f"{name(f)}{lent}, a byte more", q, f, x + (1,))
+        yield from refused(f"{full_name(f)}, a byte more", q, f, x + (1,))
         if x:
-            yield from refused(f"{name(f)}{lent}, no object", q, f, (0,) * len(x))
+            yield from refused(f"{full_name(f)}, no object", q, f, (0,) * len(x))
     for f in SAMPLES:
         x = listing(f).object(1)
         for y in (x[:-1], x + x[-1:], (), (0,) * (len(x) + 1), (1,) * (PLACES + 1)):
@@ -202,8 +199,20 @@ def refusals():
     yield from refused(name(f), 6, f, (1, 1, 2, 2))
 
 
+def floors():
+    """Kind 5 with floors, and floors that are refused, on every kind."""
+    yield from everywhere(SMALL_FLOORS)
+    yield from far_and_half_way(LARGE_FLOORS, in_no_order(4))
+    for f, x in WRONG_FLOORS:
+        yield from refused(name(f), 10, f, x)
+    for q, f in FLOORS_MISSED:
+        yield from refused(full_name(f), q, f, some_bytes(f))
+    for f, x in BELOW_FLOOR:
+        yield from refused(f"{name(f)} at{words(x)}", 7, f, x)
+
+
 def main():
-    made = {"small_families": small_families, "both_ends": both_ends, "large_families": large_families, "refusals": refusals}
+    made = {"small_families": small_families, "both_ends": both_ends, "large_families": large_families, "refusals": refusals, "floors": floors}
     write_program("test_jumps", made)
 
 

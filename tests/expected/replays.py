@@ -4,14 +4,14 @@ crates/test_replay/src/main.rt has the form of a case. The library isn't run: an
 marker" of paper 01, on the listings of families.py. That a list that doesn't fit its buffers changes nothing is docs/DECISIONS.md's.
 
     python3 tests/expected/replays.py"""
-from families import BRANCHES, FITS, PLACES, Filtered, Ranks, family, is_object, length, name, refusal
+from families import BRANCHES, PLACES, Filtered, Ranks, family, full_name, is_object, length, name, not_allowed, refusal
+from samples import BELOW_FLOOR, FLOORS_MISSED, LARGE_FLOORS, LARGEST, SAMPLES, SMALL_FLOORS, WRONG_FLOORS, some_bytes
 from texts import words, write_program
 
 CODES = {"FIRST": 1, "LAST": 2, "NEXT": 3, "PREVIOUS": 4, "UNRANK": 5}
 CALLS = {code: call for call, code in CODES.items()}
 WRITTEN, STEPPED, END = 20, 21, 100
 UNWRITTEN = 255
-LARGEST = FITS - 1
 
 
 class Marker:
@@ -19,8 +19,8 @@ class Marker:
 
     def __init__(self, f, way, before):
         self.f, self.before = f, tuple(before)
-        # what the table doesn't allow, questions 1 to 3, has an empty listing
-        self.listing = None if refusal("COUNT", f, ()) in (1, 2, 3) else way(f)
+        # what the table doesn't allow has an empty listing
+        self.listing = None if not_allowed(f) else way(f)
         self.place = self.listing.rank(self.before) if self.listing and is_object(f, self.before) else None
 
     def call(self, call, rank):
@@ -47,8 +47,8 @@ class Case:
         self.label, self.codes, self.ranks, self.f, self.x, self.answers, self.trail, self.way = label, codes, ranks, f, x, answers, trail, way
 
     def line(self):
-        kind, n, k, counts = self.f
-        return f"{self.label}:{words(self.codes)} /{words(self.ranks)} / {kind} {n} {k} /{words(self.x)} /{words(counts)} / {self.answers} {self.trail}"
+        sections = self.codes, self.ranks, self.f.numbers(), self.x, self.f.counts, (self.answers, self.trail)
+        return f"{self.label}:" + " /".join(map(words, sections))
 
     def printed(self):
         many = len(self.codes)
@@ -81,6 +81,27 @@ def in_no_order(many, count, seed):
     return calls
 
 
+def everywhere(f):
+    """To END and beyond, there and back, through the ranks, from no object, and in no order."""
+    listing = Filtered(f)
+    count, none = listing.count(), [9] * length(f)
+    first, last = listing.object(0), listing.object(count - 1)
+    on, back = ["NEXT"] * (count - 1), ["PREVIOUS"] * (count - 1)
+    lists = [
+        ("no calls", [], last),
+        ("on to END and beyond", ["FIRST", *on, "NEXT", "NEXT", "PREVIOUS"], none),
+        ("back to END and beyond", ["LAST", *back, "PREVIOUS", "PREVIOUS", "NEXT"], none),
+        ("there and back", on + back, first),
+        ("back and there", back + on, last),
+        ("one beyond and back", [*on, "NEXT", *back, "PREVIOUS"], first),
+        ("through the ranks", [*range(count), count, LARGEST, "NEXT", 0, "PREVIOUS", "NEXT"], none),
+        ("from no object", ["NEXT", count, "PREVIOUS", "FIRST", "NEXT", "PREVIOUS", "PREVIOUS"], none),
+        ("in no order", in_no_order(40, count, 1 + f.kind + f.n + f.k), none),
+        ("in no order, from an object", in_no_order(40, count, 100 + f.kind + f.n + f.k), last),
+    ]
+    yield from (fitting(f"{name(f)}, {what}", calls, f, x) for what, calls, x in lists)
+
+
 def small_families():
     fs = [family(1, n, k) for n, k in ((0, 0), (3, 0), (3, 3), (4, 2), (5, 3))]
     fs += [family(2, len(counts), 0, counts) for counts in ((), (0,), (3,), (2, 1), (1, 0, 2), (2, 2))]
@@ -89,28 +110,17 @@ def small_families():
     fs += [family(5, n, k) for n, k in ((0, 0), (4, 1), (7, 3))]
     fs += [family(6, n) for n in (0, 1, 3)]
     for f in fs:
-        listing = Filtered(f)
-        count, none = listing.count(), [9] * length(f)
-        first, last = listing.object(0), listing.object(count - 1)
-        on, back = ["NEXT"] * (count - 1), ["PREVIOUS"] * (count - 1)
-        lists = [
-            ("no calls", [], last),
-            ("on to END and beyond", ["FIRST", *on, "NEXT", "NEXT", "PREVIOUS"], none),
-            ("back to END and beyond", ["LAST", *back, "PREVIOUS", "PREVIOUS", "NEXT"], none),
-            ("there and back", on + back, first),
-            ("back and there", back + on, last),
-            ("one beyond and back", [*on, "NEXT", *back, "PREVIOUS"], first),
-            ("through the ranks", [*range(count), count, LARGEST, "NEXT", 0, "PREVIOUS", "NEXT"], none),
-            ("from no object", ["NEXT", count, "PREVIOUS", "FIRST", "NEXT", "PREVIOUS", "PREVIOUS"], none),
-            ("in no order", in_no_order(40, count, 1 + sum(f[:3])), none),
-            ("in no order, from an object", in_no_order(40, count, 100 + sum(f[:3])), last),
-        ]
-        yield from (fitting(f"{name(f)}, {what}", calls, f, x) for what, calls, x in lists)
+        yield from everywhere(f)
+
+
+# with ranks on both sides of a count of 6
+EVERY_CALL = ["FIRST", "NEXT", 0, "LAST", 5, "PREVIOUS", 6, "NEXT", LARGEST, "NEXT"]
+# none of which moves from bytes that are no object
+STAYS = ["NEXT", LARGEST, "PREVIOUS", "NEXT"]
 
 
 def refusals():
     up = lambda n: range(1, n + 1)
-    calls = ["FIRST", "NEXT", 0, "LAST", 5, "PREVIOUS", 6, "NEXT", LARGEST, "NEXT"]
     cases = [
         (1, "", family(0, 4, 2), up(2)),
         (1, "", family(7, 4, 2), up(2)),
@@ -132,11 +142,10 @@ def refusals():
         (8, "", family(1, 4, 2), up(2)),
     ]
     for q, more, f, x in cases:
-        yield fitting(f"question {q}, {name(f)}{more}", calls, f, x, Ranks)
-    for f in (family(1, 4, 2), family(2, 2, 0, (2, 1)), family(3, 3), family(4, 4, 2), family(5, 7, 3), family(6, 3)):
-        stays = ["NEXT", LARGEST, "PREVIOUS", "NEXT"]
-        yield fitting(f"question 7, {name(f)}, nothing written", stays, f, [0] * length(f))
-        yield fitting(f"question 7, {name(f)}, then 1 written", [*stays, 1, *stays], f, [0] * length(f))
+        yield fitting(f"question {q}, {name(f)}{more}", EVERY_CALL, f, x, Ranks)
+    for f in SAMPLES:
+        yield fitting(f"question 7, {name(f)}, nothing written", STAYS, f, [0] * length(f))
+        yield fitting(f"question 7, {name(f)}, then 1 written", [*STAYS, 1, *STAYS], f, [0] * length(f))
 
 
 def large_families():
@@ -179,8 +188,24 @@ def misfits():
     return [Case(*c) for c in cases]
 
 
+def floors():
+    """Kind 5 with floors, and floors that are refused, on every kind."""
+    for f in SMALL_FLOORS:
+        yield from everywhere(f)
+    for f in LARGE_FLOORS:
+        middle = Ranks(f).count() // 2
+        calls = ["FIRST", "PREVIOUS", "NEXT", middle, "NEXT", "PREVIOUS", "PREVIOUS", "LAST", "NEXT", "PREVIOUS", LARGEST]
+        yield fitting(name(f), calls, f, [0] * length(f), Ranks)
+    for f, x in WRONG_FLOORS:
+        yield fitting(f"question 10, {name(f)}", EVERY_CALL, f, x, Ranks)
+    for q, f in FLOORS_MISSED:
+        yield fitting(f"question {q}, {full_name(f)}", ["FIRST", "NEXT", 0, "LAST", "PREVIOUS"], f, some_bytes(f), Ranks)
+    for f, x in BELOW_FLOOR:
+        yield fitting(f"question 7, {name(f)} at{words(x)}", [*STAYS, 0, *STAYS], f, x)
+
+
 def main():
-    made = {"small_families": small_families, "refusals": refusals, "large_families": large_families, "misfits": misfits}
+    made = {"small_families": small_families, "refusals": refusals, "large_families": large_families, "misfits": misfits, "floors": floors}
     write_program("test_replay", made)
 
 

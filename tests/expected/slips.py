@@ -39,7 +39,7 @@ def text(data):
         return f"REFUSED{no:4}\n"
     listing = Filtered(f) if length(f) <= 8 and count(f) <= 100 else Ranks(f)
     shown = min(LISTED, count(f))
-    lines = [f"{f[0]:4}{f[1]:4}{f[2]:4}{count(f) if count(f) < FITS else 'MANY':>20}"]
+    lines = [f"{f.kind:4}{f.n:4}{f.k:4}{count(f) if count(f) < FITS else 'MANY':>20}"]
     lines += [f"{r:20}" + "".join(f"{b:4}" for b in listing.object(r)) for r in range(shown)]
     lines.append(f"{'MORE' if shown < count(f) else 'END':>20}")
     return "".join(line + "\n" for line in lines)

@@ -7,12 +7,12 @@ number 0, what stands behind the bytes kept stays, and a run goes as many steps 
     python3 tests/expected/walks.py"""
 from functools import cache
 
-from families import BRANCHES, FITS, PLACES, Filtered, Ranks, count, family, length, name, refusal
+from families import BRANCHES, FITS, PLACES, Filtered, Ranks, count, family, full_name, length, name, refusal
+from samples import BELOW_FLOOR, FLOORS_MISSED, LARGE_FLOORS, LARGEST, SAMPLES, SMALL_FLOORS, WRONG_FLOORS, some_bytes
 from texts import words, write_program
 
 STEPPED, END = 21, 100
 UNWRITTEN = 255
-LARGEST = FITS - 1
 MOST = 100
 ON, BACK = 1, 0
 
@@ -29,10 +29,10 @@ def rank(f, x):
 
 
 class Walk:
-    """The kind, n and k of a family, its bytes, which are the first `len` of an array with room for any object, and its rank."""
+    """A family, of which the lists beside it aren't kept, its bytes, which are the first `len` of an array with room for any object, and its rank."""
 
-    def __init__(self, sizes, array, len, number):
-        self.sizes, self.array, self.len, self.number = sizes, tuple(array), len, number
+    def __init__(self, f, array, len, number):
+        self.f, self.array, self.len, self.number = f._replace(counts=()), tuple(array), len, number
 
     def bytes(self):
         """The bytes kept, as far as the array goes."""
@@ -45,7 +45,7 @@ class Walk:
 
     def step(self, way, counts):
         """One step, with these letter counts lent: the walk handed back, and the code of the answer."""
-        f = family(*self.sizes, counts)
+        f = self.f._replace(counts=counts)
         no = self.missed(f)
         if no:
             return self, no
@@ -55,11 +55,11 @@ class Walk:
         if way == BACK and self.number == 0:
             return self, 8
         moved = listing(f).object(there) + self.array[self.len :]
-        return Walk(self.sizes, moved, self.len, self.number + (1 if way == ON else -1)), STEPPED
+        return Walk(f, moved, self.len, self.number + (1 if way == ON else -1)), STEPPED
 
     def digest(self):
         total = 0
-        for v in (*self.sizes, self.len, self.number, *self.array):
+        for v in (*self.f.numbers(), self.len, self.number, *self.array):
             total = (total * 257 + v + 1) % 1000003
         return total
 
@@ -76,21 +76,19 @@ class Case:
     def __init__(self, label, f, x, legs, made=()):
         self.label, self.f, self.x, self.made = label, f, tuple(x), made
         self.legs = [(counts, steps, room[0] if room else len(steps)) for counts, steps, *room in legs]
-        assert self.legs[0][0] == f[3] and not set(label) & set(":;/")
+        assert self.legs[0][0] == f.counts and not set(label) & set(":;/")
         assert all(len(steps) <= MOST and room <= MOST for _, steps, room in self.legs) and len(x) <= (PLACES if made else MOST)
 
     def line(self):
-        kind, n, k, _ = self.f
         legs = ";".join(f"{words(counts)} / {room}{words(steps)}" for counts, steps, room in self.legs)
-        return f"{self.label}: {kind} {n} {k} /{words(self.made)} /{words(self.x)};{legs}"
+        return f"{self.label}:{words(self.f.numbers())} /{words(self.made)} /{words(self.x)};{legs}"
 
     def begun(self):
         """The walk, and what is printed of how it begins."""
-        sizes = self.f[:3]
         if self.made:
-            return Walk(sizes, filled(self.x), *self.made), " made up"
+            return Walk(self.f, filled(self.x), *self.made), " made up"
         no = refusal("RANK", self.f, self.x)
-        walk = Walk(sizes, filled(()), 0, 0) if no else Walk(sizes, filled(self.x), len(self.x), listing(self.f).rank(self.x))
+        walk = Walk(self.f, filled(()), 0, 0) if no else Walk(self.f, filled(self.x), len(self.x), listing(self.f).rank(self.x))
         return walk, f" RANK {rank(self.f, self.x)}"
 
     def printed(self):
@@ -112,7 +110,7 @@ class Case:
 
 def alike(f, *legs):
     """Legs that are all handed the counts that the walk begins with."""
-    return [(f[3], *(leg if isinstance(leg, tuple) else (leg,))) for leg in legs]
+    return [(f.counts, *(leg if isinstance(leg, tuple) else (leg,))) for leg in legs]
 
 
 def in_no_order(many, seed):
@@ -124,6 +122,24 @@ def in_no_order(many, seed):
     return steps
 
 
+def everywhere(f):
+    """From each object, or from three of many, to END and beyond; there and back, zigzag and in no order."""
+    many, objects = count(f), listing(f)
+    for r in range(many) if many <= 10 else (0, many // 2, many - 1):
+        label, x = f"{name(f)} from {r}", objects.object(r)
+        yield Case(f"{label}, on, then back", f, x, alike(f, [ON] * (many - r + 1), [BACK] * (many + 1)))
+        yield Case(f"{label}, back", f, x, alike(f, [BACK] * (r + 2)))
+    there, back = [ON] * (many - 1), [BACK] * (many - 1)
+    first, middle, last = objects.object(0), objects.object(many // 2), objects.object(many - 1)
+    if many > 1:
+        yield Case(f"{name(f)}, there and back", f, first, alike(f, there, back))
+        yield Case(f"{name(f)}, back and there", f, last, alike(f, back, there))
+        yield Case(f"{name(f)}, zigzag on", f, first, alike(f, ([ON, ON, BACK] * 4, 5)))
+        yield Case(f"{name(f)}, zigzag back", f, last, alike(f, ([BACK, BACK, ON] * 4, 0)))
+        seed = 1 + f.n + f.k + 11 * f.kind
+        yield Case(f"{name(f)}, in no order", f, middle, alike(f, (in_no_order(12, seed), 11), (in_no_order(12, seed + 1), 14)))
+
+
 def small_families():
     fs = [family(1, n, k) for n, k in ((0, 0), (3, 0), (3, 3), (4, 2), (5, 3))]
     fs += [family(2, len(counts), 0, counts) for counts in ((), (0,), (0, 0), (3,), (2, 1), (1, 0, 2), (2, 2))]
@@ -132,27 +148,9 @@ def small_families():
     fs += [family(5, n, k) for n, k in ((0, 0), (4, 1), (7, 3))]
     fs += [family(6, n) for n in (0, 1, 3, 4)]
     for f in fs:
-        many, objects = count(f), listing(f)
-        # to END and beyond
-        for r in range(many) if many <= 10 else (0, many // 2, many - 1):
-            label, x = f"{name(f)} from {r}", objects.object(r)
-            yield Case(f"{label}, on, then back", f, x, alike(f, [ON] * (many - r + 1), [BACK] * (many + 1)))
-            yield Case(f"{label}, back", f, x, alike(f, [BACK] * (r + 2)))
-        there, back = [ON] * (many - 1), [BACK] * (many - 1)
-        first, middle, last = objects.object(0), objects.object(many // 2), objects.object(many - 1)
-        if many > 1:
-            yield Case(f"{name(f)}, there and back", f, first, alike(f, there, back))
-            yield Case(f"{name(f)}, back and there", f, last, alike(f, back, there))
-            yield Case(f"{name(f)}, zigzag on", f, first, alike(f, ([ON, ON, BACK] * 4, 5)))
-            yield Case(f"{name(f)}, zigzag back", f, last, alike(f, ([BACK, BACK, ON] * 4, 0)))
-            seed = 1 + sum(f[:3]) + 10 * f[0]
-            yield Case(f"{name(f)}, in no order", f, middle, alike(f, (in_no_order(12, seed), 11), (in_no_order(12, seed + 1), 14)))
+        yield from everywhere(f)
     f = family(1, 4, 2)
     yield Case(f"{name(f)}, no steps", f, (2, 3), alike(f, [], ([], 3), [ON], []))
-
-
-# one of each kind
-SAMPLES = family(1, 4, 2), family(2, 2, 0, (2, 1)), family(3, 3), family(4, 4, 2), family(5, 7, 3), family(6, 3)
 
 
 def marked(x):
@@ -160,18 +158,22 @@ def marked(x):
     return tuple(x) + tuple(1 + i % 9 for i in range(len(x), PLACES))
 
 
-def numbers():
+def wrong_numbers(f):
     """Numbers that aren't the rank: at the first object, at one in the middle and at the last."""
+    many, size = count(f), length(f)
+    for r in (0, many // 2, many - 1):
+        x = marked(listing(f).object(r))
+        for number in (0, many - 1):
+            label = f"{name(f)}, number {number} at {r}"
+            yield Case(f"{label}, on", f, x, alike(f, [ON, ON, BACK]), (size, number))
+            yield Case(f"{label}, back", f, x, alike(f, [BACK, BACK, ON, BACK, BACK]), (size, number))
+        for number in (many, LARGEST):
+            yield Case(f"{name(f)}, number {number} at {r}", f, x, alike(f, [ON, BACK]), (size, number))
+
+
+def numbers():
     for f in SAMPLES:
-        many, size = count(f), length(f)
-        for r in (0, many // 2, many - 1):
-            x = marked(listing(f).object(r))
-            for number in (0, many - 1):
-                label = f"{name(f)}, number {number} at {r}"
-                yield Case(f"{label}, on", f, x, alike(f, [ON, ON, BACK]), (size, number))
-                yield Case(f"{label}, back", f, x, alike(f, [BACK, BACK, ON, BACK, BACK]), (size, number))
-            for number in (many, LARGEST):
-                yield Case(f"{name(f)}, number {number} at {r}", f, x, alike(f, [ON, BACK]), (size, number))
+        yield from wrong_numbers(f)
     # in range and wrong by two: it stays wrong by two
     f = family(1, 5, 3)
     for number in (3, 7):
@@ -208,49 +210,44 @@ def made_up():
         yield from cases
 
 
-def some_bytes(f):
-    """An object where there is one, else 1, 2, .. as many as the table says."""
-    if refusal("FIRST", f, ()) in (0, 6):
-        return listing(f).object(0)
-    return tuple(range(1, 1 + (min(length(f), PLACES) if 1 <= f[0] <= 6 else f[2])))
+# families that miss each question 1 to 5, with its number; some miss others behind it
+MISSING = [
+    (1, family(0, 4, 2)),
+    (1, family(7, 4, 2)),
+    (1, family(LARGEST, 4, 2)),
+    # 1, and 2 and 3
+    (1, family(7, PLACES + 1, 2, (1,))),
+    (2, family(1, PLACES + 1, 2)),
+    (2, family(1, 4, PLACES + 1)),
+    (2, family(1, LARGEST, 0)),
+    (2, family(3, 4, 1)),
+    (2, family(6, BRANCHES + 1)),
+    # 2, and 3 and 4
+    (2, family(1, 2, PLACES + 1, (1, 1))),
+    (3, family(2, 3, 0, (1, 1))),
+    (3, family(2, 1, 0, (1, 1))),
+    (3, family(2, 2, 0, (PLACES, 1))),
+    (3, family(1, 4, 2, (0,))),
+    # 3, and 4; 3, and 5
+    (3, family(1, 2, 4, (0,))),
+    (3, family(3, 21, 0, (1,))),
+    (4, family(1, 2, 4)),
+    (4, family(4, 3, 0)),
+    (4, family(5, 3, 0)),
+    (4, family(5, 3, 4)),
+    (5, family(3, 21)),
+    (5, family(1, PLACES, PLACES // 2)),
+    (5, family(2, 2, 0, (40, 40))),
+    (5, family(6, 37)),
+]
 
 
 def refusals():
-    """Families that miss each question 1 to 5, which come before 6, 7 and 8: with lengths and numbers of which some are missed too."""
-    missing = [
-        (1, family(0, 4, 2)),
-        (1, family(7, 4, 2)),
-        (1, family(LARGEST, 4, 2)),
-        # 1, and 2 and 3
-        (1, family(7, PLACES + 1, 2, (1,))),
-        (2, family(1, PLACES + 1, 2)),
-        (2, family(1, 4, PLACES + 1)),
-        (2, family(1, LARGEST, 0)),
-        (2, family(3, 4, 1)),
-        (2, family(6, BRANCHES + 1)),
-        # 2, and 3 and 4
-        (2, family(1, 2, PLACES + 1, (1, 1))),
-        (3, family(2, 3, 0, (1, 1))),
-        (3, family(2, 1, 0, (1, 1))),
-        (3, family(2, 2, 0, (PLACES, 1))),
-        (3, family(1, 4, 2, (0,))),
-        # 3, and 4; 3, and 5
-        (3, family(1, 2, 4, (0,))),
-        (3, family(3, 21, 0, (1,))),
-        (4, family(1, 2, 4)),
-        (4, family(4, 3, 0)),
-        (4, family(5, 3, 0)),
-        (4, family(5, 3, 4)),
-        (5, family(3, 21)),
-        (5, family(1, PLACES, PLACES // 2)),
-        (5, family(2, 2, 0, (40, 40))),
-        (5, family(6, 37)),
-    ]
-    for q, f in missing:
+    """Questions 1 to 5 come before 6, 7 and 8: with lengths and numbers of which some are missed too."""
+    for q, f in MISSING:
         x = some_bytes(f)
         assert refusal("RANK", f, x) == q
-        lent = f" with the counts{words(f[3])}" if f[3] and f[0] != 2 else f" with n {f[1]}" if f[0] == 2 else ""
-        label = f"question {q}, {name(f)}{lent}"
+        label = f"question {q}, {full_name(f)}"
         yield Case(f"{label}, at a start", f, x, alike(f, [ON, BACK]))
         for size, number in ((len(x), 0), (len(x) + 1, LARGEST), (PLACES + 1, 0), (LARGEST, LARGEST)):
             yield Case(f"{label}, length {size}, number {number}", f, x, alike(f, [ON, BACK]), (size, number))
@@ -271,9 +268,9 @@ def lists_change():
     f = family(2, 2, 0, (2, 1))
     others = ((1, 2), (2, 0), (2, 1, 0), (2,), (), (3, 0), (0, 3), (0, 0), (1, 1), (2, 2), (80, 1), (255, 255), (0, 2, 1))
     for r in range(3):
-        legs = [(f[3], [])]
+        legs = [(f.counts, [])]
         for i, other in enumerate(others):
-            legs += [(other, [ON, BACK], i % 4), (f[3], [ON if i % 4 < 2 else BACK])]
+            legs += [(other, [ON, BACK], i % 4), (f.counts, [ON if i % 4 < 2 else BACK])]
         yield Case(f"{name(f)} from {r}, others between", f, listing(f).object(r), legs)
     # longer, there and back with others between
     for f, others in (
@@ -281,7 +278,7 @@ def lists_change():
         (family(2, 2, 0, (2, 2)), ((1, 3), (3, 1), (2, 1), (2, 2, 0))),
     ):
         many = count(f)
-        legs = [leg for way in (ON, BACK) for i in range(many) for leg in ((f[3], [way]), (others[i % len(others)], [1 - way, way]))]
+        legs = [leg for way in (ON, BACK) for i in range(many) for leg in ((f.counts, [way]), (others[i % len(others)], [1 - way, way]))]
         yield Case(f"{name(f)}, others behind each step", f, listing(f).object(0), legs)
     # the bytes of another list behind each other in the array: the length decides
     f = family(2, 2, 0, (2, 0))
@@ -296,13 +293,29 @@ def lists_change():
     yield Case(f"{name(f)}, number 4", f, listing(f).object(4), legs, (4, 4))
     # kinds that have no counts
     for f in SAMPLES:
-        if f[0] != 2:
+        if f.kind != 2:
             legs = [((), [ON]), ((0,), [ON, BACK]), ((), [ON]), ((1,) * length(f), [ON, BACK]), ((), [BACK])]
             yield Case(f"{name(f)}, counts handed in", f, listing(f).object(0), legs)
     # begun with a list that doesn't fit, then handed one that does
     f = family(2, 2, 0, (1, 2))
     yield Case(f"{name(f)}, begun at 1 1 2", f, (1, 1, 2), [((1, 2), [ON]), ((2, 1), [ON, BACK])])
     yield Case(f"{name(f)}, made up at 1 1 2", f, (1, 1, 2), [((1, 2), [ON]), ((2, 1), [ON, BACK]), ((1, 2), [BACK])], (3, 0))
+
+
+def round_three(f):
+    """Steps round the first object, one in the middle and the last."""
+    many, objects = count(f), Ranks(f)
+    on, back = [ON, ON, BACK, BACK, BACK, ON], [BACK, BACK, ON, ON, ON, BACK]
+    middle = 1234567890123456789 % many
+    yield Case(f"{name(f)} from the first", f, objects.object(0), alike(f, on))
+    yield Case(f"{name(f)} from {middle}", f, objects.object(middle), alike(f, (back, 4)))
+    yield Case(f"{name(f)} from the last", f, objects.object(many - 1), alike(f, [ON], (back, 7)))
+
+
+def beyond(f):
+    """Of a family with 2^64 objects or more."""
+    yield Case(f"{name(f)} from the first", f, Ranks(f).object(0), alike(f, [ON, BACK]))
+    yield Case(f"{name(f)}, number 1", f, Ranks(f).object(1), alike(f, [ON, BACK]), (length(f), 1))
 
 
 def large_families():
@@ -312,23 +325,37 @@ def large_families():
     fs += [family(4, n, k) for n, k in ((65, 2), (26, 9), (80, 79), (80, 80), (66, 2))]
     fs += [family(5, n, k) for n, k in ((80, 18), (80, 70), (80, 80))]
     fs += [family(6, n) for n in (36, 37)]
-    on, back = [ON, ON, BACK, BACK, BACK, ON], [BACK, BACK, ON, ON, ON, BACK]
     for f in fs:
-        many, size, objects = count(f), length(f), Ranks(f)
-        if many >= FITS:
-            yield Case(f"{name(f)} from the first", f, objects.object(0), alike(f, [ON, BACK]))
-            yield Case(f"{name(f)}, number 1", f, objects.object(1), alike(f, [ON, BACK]), (size, 1))
-            continue
-        middle = 1234567890123456789 % many
-        yield Case(f"{name(f)} from the first", f, objects.object(0), alike(f, on))
-        yield Case(f"{name(f)} from {middle}", f, objects.object(middle), alike(f, (back, 4)))
-        yield Case(f"{name(f)} from the last", f, objects.object(many - 1), alike(f, [ON], (back, 7)))
+        yield from round_three(f) if count(f) < FITS else beyond(f)
     f = family(4, 65, 2)
     many, objects = count(f), Ranks(f)
     assert many == LARGEST
     for number in (many - 2, many - 1, many):
         yield Case(f"{name(f)}, number {number} at 0", f, objects.object(0), alike(f, [ON, ON, ON], [BACK, ON]), (65, number))
         yield Case(f"{name(f)}, number {number} at {many - 2}", f, objects.object(many - 2), alike(f, [ON, ON, BACK]), (65, number))
+
+
+def refused(q, f, x):
+    """At a start, and made up there."""
+    assert refusal("RANK", f, x) == q
+    label = f"question {q}, {full_name(f)} at{words(x)}"
+    yield Case(f"{label}, at a start", f, x, alike(f, [ON, BACK]))
+    yield Case(f"{label}, made up", f, x, alike(f, [ON, BACK]), (len(x), 0))
+
+
+def floors():
+    """Kind 5 with floors, and floors that are refused, on every kind."""
+    for f in SMALL_FLOORS:
+        yield from everywhere(f)
+    yield from wrong_numbers(family(5, 9, 3, floor=2))
+    for f in LARGE_FLOORS:
+        yield from round_three(f)
+    for f, x in WRONG_FLOORS:
+        yield from refused(10, f, x)
+    for q, f in FLOORS_MISSED:
+        yield from refused(q, f, some_bytes(f))
+    for f, x in BELOW_FLOOR:
+        yield from refused(7, f, x)
 
 
 def main():
@@ -338,6 +365,7 @@ def main():
         "refusals": refusals,
         "lists_change": lists_change,
         "large_families": large_families,
+        "floors": floors,
     }
     write_program("test_walks", made)
 

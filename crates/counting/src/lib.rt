@@ -3,15 +3,16 @@
 ghost use mathlib.Core.Path.{_≡_};
 ghost use mathlib.Core.Bool.{_&&_};
 ghost use lib.Dec.{leb};
-ghost use Rattle.numbers.specs.Limits.{places, branches};
+ghost use Rattle.numbers.specs.Limits.{places, branches, floors};
 ghost use Rattle.numbers.specs.Sums.{total};
-ghost use Rattle.numbers.specs.Numbers.{choose, factorialOf, multinomialOf, stirlingOf, partitionsOf, catalanOf};
+ghost use Rattle.numbers.specs.Numbers.{choose, factorialOf, multinomialOf, stirlingOf, partsFrom, catalanOf};
 ghost use Rattle.counting.specs.Answers.{fits, within, ifFits};
 
 mod product;
 mod short;
 
 use numbers::BRANCHES;
+use numbers::FLOORS;
 use numbers::PLACES;
 
 pub enum Count {
@@ -91,17 +92,23 @@ pub fn stirling(n: u64, k: u64) -> Count
     Count::Exactly(stirlings::stirling(n, k))
 }
 
-// Kind 5: partitions of the number n into exactly k parts.
-pub fn partitions(n: u64, k: u64) -> Count
-    ensures { λ r. ⌜ r ≡ within (leb n places && leb k places) (fits (partitionsOf n k)) ⌝ }
+// Kind 5: partitions of the number n into exactly k parts, each at least the floor.
+pub fn partitions(floor: u64, n: u64, k: u64) -> Count
+    ensures { λ r. ⌜ r ≡ within ((leb 1 floor && leb floor floors) && (leb n places && leb k places)) (fits (partsFrom floor n k)) ⌝ }
 {
+    if floor < 1 {
+        return Count::Outside;
+    }
+    if FLOORS < floor {
+        return Count::Outside;
+    }
     if PLACES < n {
         return Count::Outside;
     }
     if PLACES < k {
         return Count::Outside;
     }
-    Count::Exactly(partition_numbers::partitions(n, k))
+    Count::Exactly(partition_numbers::at_least(floor, n, k))
 }
 
 // Kind 6: Dyck words with n of each.

@@ -20,12 +20,12 @@ use Rattle.dyck_words.specs.Objects.{balancedFrom, isDyckWord}
 use Rattle.dyck_words.specs.Trees.{size, word, sameTree, treeBefore, join, openRows, parse, dyckBefore}
 use Rattle.dyck_words.specs.Listing.{nodes, treesDown, trees, dyckWords}
 use Rattle.families.specs.Table.{noCounts, subsetRow, anagramRow, permutationRow, setPartitionRow, integerPartitionRow, dyckWordRow, table}
-use Rattle.families.specs.Families.{row, isKind, inTable, listsFit, askedOfAll, allYes, allowed, objectLength, isObject, comesBefore, listing, countOf, rankOf}
+use Rattle.families.specs.Families.{row, isKind, inTable, floorFits, listsFit, askedOfAll, allYes, allowed, objectLength, isObject, comesBefore, listing, countOf, rankOf}
 use Rattle.families.specs.Questions.{asked, isIn, put, rankGiven, opening, closingFor, refusal}
 use Rattle.families.specs.Calls.{respond}
 use Rattle.families.specs.Cases.{CasesHold, cases}
 
 pub cases-hold : CasesHold cases
-unfolding respond refusal opening closingFor put isIn asked rankGiven firstNo orElse judged act placeOf onward backward stepped countBefore same lexBefore colexBefore noCounts subsetRow anagramRow permutationRow setPartitionRow integerPartitionRow dyckWordRow table row isKind inTable listsFit askedOfAll allYes allowed objectLength isObject comesBefore listing countOf rankOf flatMap total range oneLess lettersFrom climbs isSubset subsets occurrences tallies isAnagram words anagrams opens isSetPartition keyOf keys setPartitionBefore keysInOrder withKey setPartitions descends isIntegerPartition integerPartitions balancedFrom isDyckWord size word sameTree treeBefore join openRows parse dyckBefore nodes treesDown trees dyckWords
+unfolding respond refusal opening closingFor put isIn asked rankGiven firstNo orElse judged act placeOf onward backward stepped countBefore same lexBefore colexBefore noCounts subsetRow anagramRow permutationRow setPartitionRow integerPartitionRow dyckWordRow table row isKind inTable floorFits listsFit askedOfAll allYes allowed objectLength isObject comesBefore listing countOf rankOf flatMap total range oneLess lettersFrom climbs isSubset subsets occurrences tallies isAnagram words anagrams opens isSetPartition keyOf keys setPartitionBefore keysInOrder withKey setPartitions descends isIntegerPartition integerPartitions balancedFrom isDyckWord size word sameTree treeBefore join openRows parse dyckBefore nodes treesDown trees dyckWords
 cases-hold =
     ((refl, tt), ((refl, (refl, tt)), ((refl, (refl, tt)), ((refl, tt), ((refl, tt), ((refl, tt), ((refl, (refl, (refl, tt))), ((refl, tt), ((refl, tt), ((refl, (refl, tt)), ((refl, (refl, tt)), ((refl, tt), tt))))))))))))

@@ -1,23 +1,23 @@
 -- What a call knows when it hands a family to its kind: the family's listing, order, objects and count as the kind's row says them.
 -- Assumes nothing.
 use mathlib.Core.Path.{_≡_, refl, sym, _∙_, subst}
-use mathlib.Core.Bool.{Bool, true, _&&_, _||_}
+use mathlib.Core.Bool.{Bool, true, cond, _&&_, _||_}
 use mathlib.Core.Logic.{⊎-elim}
-use Prim.Native.Nat.{ℕ, suc, _≤_, _<_, min}
-use native.Mathlib.Nat.{min-eq-left, min-eq-right}
+use Prim.Native.Nat.{ℕ, zero, suc, _*_, _≤_, _<_, min}
+use native.Mathlib.Nat.{zero-mul, suc-mul, min-eq-left, min-eq-right}
 use native.Mathlib.Omega.{arith}
 use native.Mathlib.Decide.{decLe}
 use lib.Dec.{leb, ltb, eqb}
 use lib.ListN.{length, getD}
-use borrow.Author.Tests.{leb-true, ltb-true, eqb-true, lt-ltb, lt-leb}
-use Rattle.numbers.specs.Limits.{places, longestObject}
+use borrow.Author.Tests.{leb-true, ltb-true, eqb-true, ne-eqb, lt-ltb, lt-leb}
+use Rattle.numbers.specs.Limits.{places, branches, longestObject}
 use Rattle.numbers.specs.Sums.{total}
 use Rattle.listings.specs.Bytes.{Bytes}
 use Rattle.listings.specs.Rows.{Row}
 use Rattle.listings.proofs.Bools.{and-true, or-cases}
 use Rattle.families.specs.declared.Family.{Family}
-use Rattle.families.specs.Table.{Lent, anagramRow, noRow, table}
-use Rattle.families.specs.Families.{row, allowed, objectLength, isObject, comesBefore, listing, countOf}
+use Rattle.families.specs.Table.{Lent, subsetRow, anagramRow, permutationRow, setPartitionRow, integerPartitionRow, dyckWordRow, noRow, table, lastKind}
+use Rattle.families.specs.Families.{row, isKind, inTable, allowed, objectLength, isObject, comesBefore, listing, countOf}
 use Rattle.families.proofs.FamilyFacts.{lawful, object-allowed, bounded, fitting, count-is, has-object, short}
 
 -- the family's facts as a row says them
@@ -59,7 +59,7 @@ handed kind f b e a = subst (λ (κ : ℕ). Handed f b (rowAt κ f b)) e (by-row
 -- a kind's functions read n or k off an object whose length it is
 
 abbrev pub withSizes : Family → ℕ → ℕ → Family
-withSizes f n k = record { kind = f .kind; n = n; k = k }
+withSizes f n k = record { kind = f .kind; n = n; k = k; floor = f .floor }
 
 abbrev pub withN : Family → ℕ → Family
 withN f n = withSizes f n (f .k)
@@ -97,6 +97,29 @@ module _ (kind : ℕ) (f : Family) (b : Lent) (x : Bytes) (e : f .kind ≡ kind)
 pub n-within : (n limit : ℕ) (t : Bool) → (leb n limit && t) ≡ true → n ≤ limit
 n-within n limit t e = leb-true n limit (and-true (leb n limit) t e .0)
 
+-- the bounds of every row are two limits, by the kind's number
+
+zero-most : (k : ℕ) → eqb k 0 ≡ leb k 0
+zero-most zero = refl
+zero-most (suc k) = rw (ne-eqb (suc k) 0 (λ e. omega arith), lt-leb (suc k) 0 (omega arith))
+
+bounds-at : (kind : ℕ) (f : Family) (b : Lent) → 1 ≤ kind → kind ≤ lastKind → rowAt kind f b .inBounds ≡ (leb (f .n) (cond (eqb kind 6) branches places) && leb (f .k) (cond (eqb kind 1 || eqb kind 4 || eqb kind 5) places 0))
+unfolding table subsetRow anagramRow permutationRow setPartitionRow integerPartitionRow dyckWordRow
+bounds-at zero f b low high = absurd (omega arith)
+bounds-at (suc zero) f b low high = refl
+bounds-at (suc (suc zero)) f b low high = rw (zero-most (f .k))
+bounds-at (suc (suc (suc zero))) f b low high = rw (zero-most (f .k))
+bounds-at (suc (suc (suc (suc zero)))) f b low high = refl
+bounds-at (suc (suc (suc (suc (suc zero))))) f b low high = refl
+bounds-at (suc (suc (suc (suc (suc (suc zero)))))) f b low high = rw (zero-most (f .k))
+bounds-at (suc (suc (suc (suc (suc (suc (suc kind))))))) f b low high = absurd (omega arith)
+
+pub two-limits : (f : Family) (b : Lent) → isKind f ≡ true → inTable f b ≡ (leb (f .n) (cond (eqb (f .kind) 6) branches places) && leb (f .k) (cond (eqb (f .kind) 1 || eqb (f .kind) 4 || eqb (f .kind) 5) places 0))
+unfolding isKind inTable row
+two-limits f b e =
+    let p = and-true (leb 1 (f .kind)) (leb (f .kind) lastKind) e in
+    bounds-at (f .kind) f b (leb-true 1 (f .kind) (p .0)) (leb-true (f .kind) lastKind (p .1))
+
 -- the letters of an anagram are as many as n says, and their counts sum to no more than the places
 module _ {f : Family} {b : Lent} (t : Handed f b (rowAt 2 f b)) where
   pub letters-fit : length (b .counts) ≤ longestObject
@@ -109,11 +132,16 @@ module _ {f : Family} {b : Lent} (t : Handed f b (rowAt 2 f b)) where
   unfolding table anagramRow
   sum-fits = and-true (eqb (length (b .counts)) (f .n)) (leb (total (b .counts)) places) (t .fits) .1
 
--- "no object when k > n", "none when k = 0 < n"
-pub shared : (n k : ℕ) → (leb k n && (ltb 0 k || eqb n 0)) ≡ true → (k ≤ n) × (k ≡ 0 → n ≡ 0)
-shared n k e =
-    let p = and-true (leb k n) (ltb 0 k || eqb n 0) e in
-    (leb-true k n (p .0), ⊎-elim (λ w z. omega (arith, ltb-true 0 k w)) (λ w z. eqb-true n 0 w) (or-cases (ltb 0 k) (eqb n 0) (p .1)))
+-- the objects have m at the least, and "none when k = 0 < n"
+pub shared : (n m k : ℕ) → (leb m n && (ltb 0 k || eqb n 0)) ≡ true → (m ≤ n) × (k ≡ 0 → n ≡ 0)
+shared n m k e =
+    let p = and-true (leb m n) (ltb 0 k || eqb n 0) e in
+    (leb-true m n (p .0), ⊎-elim (λ w z. omega (arith, ltb-true 0 k w)) (λ w z. eqb-true n 0 w) (or-cases (ltb 0 k) (eqb n 0) (p .1)))
+
+-- k parts of some size have a sum, unless there are none
+pub some-parts : (k f : ℕ) → 1 ≤ f → ltb 0 (k * f) ≡ ltb 0 k
+some-parts zero f h = rw zero-mul
+some-parts (suc k) f h = rw (lt-ltb 0 (suc k * f) (omega (arith, suc-mul k f)), lt-ltb 0 (suc k) (omega arith))
 
 -- a sum that is counted only to just above a limit is within the limit where the whole sum is
 pub to-limit : (v m : ℕ) → leb (min v (suc m)) m ≡ leb v m

@@ -4,7 +4,8 @@ use mathlib.Core.Path.{_≡_, refl, sym, _∙_, ap}
 use mathlib.Core.Bool.{Bool, true, false}
 use mathlib.Core.Logic.{⊎-elim}
 use mathlib.Core.List.{List, [], _∷_, List·Memᴰ·head, List·Memᴰ·tail}
-use Prim.Native.Nat.{ℕ, _<_}
+use Prim.Native.Nat.{ℕ, _*_, _≤_, _<_}
+use native.Mathlib.Nat.{zero-mul, mul-one, mul-le-mul-left}
 use native.Mathlib.Omega.{arith}
 use lib.Dec.{leb, eqb}
 use lib.ListN.{length}
@@ -18,7 +19,7 @@ use Rattle.families.specs.declared.Family.{Family}
 use Rattle.families.specs.Table.{Lent, subsetRow, anagramRow, permutationRow, setPartitionRow, integerPartitionRow, dyckWordRow, table}
 use Rattle.families.specs.Families.{row, listsFit, allowed, objectLength, listing, countOf}
 use Rattle.families.proofs.RowsHold.{with-counts}
-use Rattle.families.proofs.FamilyFacts.{listed, lawful, not-allowed, has-object, fitting}
+use Rattle.families.proofs.FamilyFacts.{listed, lawful, not-allowed, has-object, fitting, floor-positive}
 use Rattle.families.proofs.Going.{empty}
 
 -- "With n = 0 kinds 2, 3 and 6 have one object, the empty string. So have kind 1 with k = 0 and kinds 4 and 5 with n = k = 0."
@@ -30,13 +31,14 @@ pub data EmptyAlone (f : Family) : Type 0 where
   integer-partitions : f .kind ≡ 5 → f .n ≡ 0 → f .k ≡ 0 → EmptyAlone f
   dyck-words : f .kind ≡ 6 → f .n ≡ 0 → EmptyAlone f
 
--- "Kinds 1, 4 and 5 have no object when k > n; kinds 4 and 5 have none when k = 0 < n."
+-- "Kinds 1, 4 and 5 have no object when k > n; kinds 4 and 5 have none when k = 0 < n." Nor has kind 5 when k times the floor is beyond n.
 pub data NoObject (f : Family) : Type 0 where
   subsets : f .kind ≡ 1 → f .n < f .k → NoObject f
   set-partitions : f .kind ≡ 4 → f .n < f .k → NoObject f
   integer-partitions : f .kind ≡ 5 → f .n < f .k → NoObject f
   set-partitions-none : f .kind ≡ 4 → f .k ≡ 0 → 0 < f .n → NoObject f
   integer-partitions-none : f .kind ≡ 5 → f .k ≡ 0 → 0 < f .n → NoObject f
+  integer-partitions-floor : f .kind ≡ 5 → f .n < f .k * f .floor → NoObject f
 
 -- what the row says of them
 
@@ -58,7 +60,7 @@ said-empty f b fits (anagrams e n) =
     record { size = rw e (none-left (b .counts) (eqb-true (length (b .counts)) (f .n) counts ∙ n)); has = rw e }
 said-empty f b fits (permutations e n) = record { size = rw (e, n); has = rw e }
 said-empty f b fits (set-partitions e n k) = record { size = rw (e, n); has = rw (e, n, k) }
-said-empty f b fits (integer-partitions e n k) = record { size = rw (e, k); has = rw (e, n, k) }
+said-empty f b fits (integer-partitions e n k) = record { size = rw (e, k); has = rw (e, n, k, zero-mul (f .floor)) }
 said-empty f b fits (dyck-words e n) = record { size = rw (e, n); has = rw e }
 
 -- of strings without a byte there is one
@@ -82,18 +84,21 @@ empty-alone f b a e =
     alone (listing f b) (listed f b) (λ x o. empty x (omega (arith, lawful f b .long x o ∙ says .size))) (ltb-true 0 (countOf f b) (has-object f b a ∙ says .has))
 
 -- and a family that the paper says has none has none
-said-none : (f : Family) (b : Lent) → NoObject f → row f b .hasObject ≡ false
+said-none : (f : Family) (b : Lent) → allowed f b ≡ true → NoObject f → row f b .hasObject ≡ false
 unfolding row table subsetRow setPartitionRow integerPartitionRow
-said-none f b (subsets e h) = rw e (lt-leb (f .k) (f .n) h)
-said-none f b (set-partitions e h) = rw (e, lt-leb (f .k) (f .n) h)
-said-none f b (integer-partitions e h) = rw (e, lt-leb (f .k) (f .n) h)
-said-none f b (set-partitions-none e k h) = rw (e, k, le-leb 0 (f .n) (omega arith), ne-eqb (f .n) 0 (λ n. omega arith))
-said-none f b (integer-partitions-none e k h) = rw (e, k, le-leb 0 (f .n) (omega arith), ne-eqb (f .n) 0 (λ n. omega arith))
+said-none f b a (subsets e h) = rw e (lt-leb (f .k) (f .n) h)
+said-none f b a (set-partitions e h) = rw (e, lt-leb (f .k) (f .n) h)
+said-none f b a (integer-partitions e h) =
+    let whole : f .k * 1 ≤ f .k * f .floor = mul-le-mul-left (f .k) (floor-positive f b a e) in
+    rw (e, lt-leb (f .k * f .floor) (f .n) (omega (arith, mul-one (f .k))))
+said-none f b a (set-partitions-none e k h) = rw (e, k, le-leb 0 (f .n) (omega arith), ne-eqb (f .n) 0 (λ n. omega arith))
+said-none f b a (integer-partitions-none e k h) = rw (e, k, zero-mul (f .floor), le-leb 0 (f .n) (omega arith), ne-eqb (f .n) 0 (λ n. omega arith))
+said-none f b a (integer-partitions-floor e h) = rw (e, lt-leb (f .k * f .floor) (f .n) h)
 
 pub none-at-all : (f : Family) (b : Lent) → NoObject f → listing f b ≡ []
 unfolding countOf
 none-at-all f b none =
     ⊎-elim
-    (λ a. empty (listing f b) (ltb-false 0 (countOf f b) (has-object f b a ∙ said-none f b none)))
+    (λ a. empty (listing f b) (ltb-false 0 (countOf f b) (has-object f b a ∙ said-none f b a none)))
     (λ a. not-allowed f b a)
     (true-or-false (allowed f b))

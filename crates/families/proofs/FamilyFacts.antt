@@ -10,7 +10,7 @@ use native.Mathlib.Omega.{arith}
 use native.Mathlib.Decide.{decLe}
 use lib.Dec.{ltb, leb}
 use borrow.Author.Tests.{leb-true}
-use Rattle.numbers.specs.Limits.{longestObject}
+use Rattle.numbers.specs.Limits.{longestObject, floors}
 use Rattle.listings.specs.Bytes.{Bytes}
 use Rattle.listings.specs.Calls.{firstNo}
 use Rattle.listings.specs.Listings.{Listing, StrictTotal}
@@ -21,7 +21,7 @@ use Rattle.listings.proofs.Ranks.{place-is-rank}
 use Rattle.listings.proofs.Demand.{Lawful}
 use Rattle.families.specs.declared.Family.{Family}
 use Rattle.families.specs.Table.{Lent, lastKind}
-use Rattle.families.specs.Families.{row, isKind, inTable, listsFit, askedOfAll, allowed, objectLength, isObject, comesBefore, listing, countOf, rankOf}
+use Rattle.families.specs.Families.{row, isKind, inTable, floorFits, listsFit, askedOfAll, allowed, objectLength, isObject, comesBefore, listing, countOf, rankOf}
 use Rattle.families.proofs.QuestionLaws.{passed, all-yes, none-no}
 use Rattle.families.proofs.RowsHold.{empty-listed, row-laws}
 
@@ -112,6 +112,18 @@ module _ (f : Family) (b : Lent) where
     pub fitting : row f b .listsFit ≡ true
     unfolding askedOfAll listsFit
     fitting = passed 3 (askedOfAll f b) (asked-allowed a)
+
+    -- "is the floor 1 to 80", as kind 5 is asked
+    module _ (e : f .kind ≡ 5) where
+      pub floor-within : (leb 1 (f .floor) && leb (f .floor) floors) ≡ true
+      unfolding askedOfAll floorFits
+      floor-within = rw e at (passed 10 (askedOfAll f b) (asked-allowed a))
+
+      pub floor-positive : 1 ≤ f .floor
+      floor-positive = leb-true 1 (f .floor) (and-true (leb 1 (f .floor)) (leb (f .floor) floors) floor-within .0)
+
+      pub floor-most : f .floor ≤ floors
+      floor-most = leb-true (f .floor) floors (and-true (leb 1 (f .floor)) (leb (f .floor) floors) floor-within .1)
 
     -- the count is the number of the kind
     pub count-is : countOf f b ≡ row f b .number

@@ -10,5 +10,6 @@ pub mod Going
 pub mod Refusals
 pub mod Answered
 pub mod Edges
+pub mod Floors
 pub mod Demand
 pub mod Cases

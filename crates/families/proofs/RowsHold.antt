@@ -61,7 +61,7 @@ lawful-rows f b =
     (more (anagram.laws (f .n) (b .counts) (leb (f .n) places && eqb (f .k) 0)) (λ h. absurd (h refl))
     (more (anagram.permutation-laws (f .n) (f .k) (noCounts b)) (λ h. refl)
     (more (set-partition.laws (f .n) (f .k) (noCounts b)) (λ h. refl)
-    (more (integer-partition.laws (f .n) (f .k) (noCounts b)) (λ h. refl)
+    (more (integer-partition.laws (f .floor) (f .n) (f .k) (noCounts b)) (λ h. refl)
     (more (dyck-word.laws (f .n) (f .k) (noCounts b)) (λ h. refl) none))))))
 
 laws-at : {b : Lent} {kind : ℕ} {l : List Row} → Rows b kind l → (i : ℕ) → RowLaws (getD l i (noRow b))

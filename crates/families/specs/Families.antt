@@ -3,8 +3,9 @@
 use mathlib.Core.Bool.{Bool, true, cond, _&&_}
 use mathlib.Core.List.{List, [], _∷_}
 use Prim.Native.Nat.{ℕ}
-use lib.Dec.{leb}
+use lib.Dec.{leb, eqb}
 use lib.ListN.{length, getD}
+use Rattle.numbers.specs.Limits.{floors}
 use Rattle.listings.specs.Bytes.{Bytes}
 use Rattle.listings.specs.Places.{countBefore}
 use Rattle.listings.specs.Rows.{Row}
@@ -24,6 +25,10 @@ isKind f = leb 1 (f .kind) && leb (f .kind) lastKind
 unfoldable pub inTable : Family → Lent → Bool
 inTable f b = row f b .inBounds
 
+-- question 10: "is the floor 1 to 80, and 1 for every kind but 5?" (SCOPE 4.10)
+unfoldable pub floorFits : Family → Bool
+floorFits f = cond (eqb (f .kind) 5) (leb 1 (f .floor) && leb (f .floor) floors) (eqb (f .floor) 1)
+
 -- question 3: "Is the count list n long for kind 2 with a sum of at most 80, and empty for other kinds?" (SCOPE 4.3)
 unfoldable pub listsFit : Family → Lent → Bool
 listsFit f b = row f b .listsFit
@@ -32,9 +37,9 @@ listsFit f b = row f b .listsFit
 abbrev pub always : ℕ → Bool → Question
 always q answer = record { number = q; yes? = answer }
 
--- the questions that are put to every call (SCOPE 4.1 to 4.3)
+-- the questions that are put to every call (SCOPE 4.1 to 4.3), with 10 between: "question 2 is followed by" it (SCOPE 4.10)
 unfoldable pub askedOfAll : Family → Lent → List Question
-askedOfAll f b = always 1 (isKind f) ∷ always 2 (inTable f b) ∷ always 3 (listsFit f b) ∷ []
+askedOfAll f b = always 1 (isKind f) ∷ always 2 (inTable f b) ∷ always 10 (floorFits f) ∷ always 3 (listsFit f b) ∷ []
 
 -- are all answers yes?
 unfoldable pub allYes : List Question → Bool

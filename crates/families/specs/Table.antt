@@ -7,7 +7,7 @@ use lib.Dec.{leb, ltb, eqb}
 use lib.ListN.{length, getD}
 use Rattle.numbers.specs.Limits.{places, branches}
 use Rattle.numbers.specs.Sums.{total}
-use Rattle.numbers.specs.Numbers.{choose, multinomialOf, factorialOf, stirlingOf, partitionsOf, catalanOf}
+use Rattle.numbers.specs.Numbers.{choose, multinomialOf, factorialOf, stirlingOf, partsFrom, catalanOf}
 use Rattle.listings.specs.Rows.{Row}
 use Rattle.subsets.specs.Objects.{isSubset, subsetBefore}
 use Rattle.subsets.specs.Listing.{subsets}
@@ -35,9 +35,9 @@ lent lists = record { counts = getD lists 0 [] }
 abbrev pub onlyCounts : List ℕ → Lent
 onlyCounts counts = lent (counts ∷ [])
 
--- a family of which no more is said than this: later fields have their defaults
+-- a family of which no more is said than this: "Floor 1 is the split of old" (SCOPE 1.e); later fields have their defaults
 abbrev pub plainFamily : ℕ → ℕ → ℕ → Family
-plainFamily kind n k = record { kind = kind; n = n; k = k }
+plainFamily kind n k = record { kind = kind; n = n; k = k; floor = 1 }
 
 -- "empty for other kinds" (SCOPE 4.3)
 unfoldable pub noCounts : Lent → Bool
@@ -96,18 +96,18 @@ setPartitionRow f b = record {
   hasObject = leb (f .k) (f .n) && (ltb 0 (f .k) || eqb (f .n) 0);
 }
 
--- 5 batch split: "n, k 0 to 80", "k parts, each at least 1, weakly descending, sum n" (SCOPE 1.5); "no object when k > n", "none when k = 0 < n"
--- (SCOPE 1.b)
+-- 5 batch split: "n, k 0 to 80", "k parts, .. weakly descending, sum n" (SCOPE 1.5), "every part of kind 5 is at least that floor" (SCOPE 1.e): k times
+-- the floor is at most n; "none when k = 0 < n" (SCOPE 1.b)
 unfoldable pub integerPartitionRow : Family → Lent → Row
 integerPartitionRow f b = record {
   inBounds = leb (f .n) places && leb (f .k) places;
   listsFit = noCounts b;
   objectLength = f .k;
-  isObject = isIntegerPartition 1 (f .n) (f .k);
+  isObject = isIntegerPartition (f .floor) (f .n) (f .k);
   comesBefore = integerPartitionBefore;
-  listing = integerPartitions 1 (f .n) (f .k);
-  number = partitionsOf (f .n) (f .k);
-  hasObject = leb (f .k) (f .n) && (ltb 0 (f .k) || eqb (f .n) 0);
+  listing = integerPartitions (f .floor) (f .n) (f .k);
+  number = partsFrom (f .floor) (f .n) (f .k);
+  hasObject = leb (f .k * f .floor) (f .n) && (ltb 0 (f .k) || eqb (f .n) 0);
 }
 
 -- 6 branch plan: "n branches, 0 to 40; k is 0", "2n bytes 1 .. and 0 .., as many of each, no prefix with more 0 than 1" (SCOPE 1.6)

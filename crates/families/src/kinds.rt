@@ -23,12 +23,13 @@ pub fn is_object<'a>(f: Family, lists: Lists<'a>, object: &[u8]) -> bool
     let kind = f.kind;
     let n = f.n;
     let k = f.k;
+    let floor = f.floor;
     match kind {
         1 => subsets::is_object(n, k, object),
         2 => anagrams::is_object(counts, object),
         3 => permutations::is_object(n as usize, object),
         4 => set_partitions::is_object(n, k, object),
-        5 => integer_partitions::is_object(1, n, k, object),
+        5 => integer_partitions::is_object(floor, n, k, object),
         6 => dyck_words::is_object(n, object),
         _ => false,
     }
@@ -44,12 +45,13 @@ pub fn first<'a>(f: Family, lists: Lists<'a>, object: &mut [u8])
     let kind = f.kind;
     let n = f.n;
     let k = f.k;
+    let floor = f.floor;
     match kind {
         1 => subsets::first(n, object),
         2 => anagrams::first(counts, object),
         3 => permutations::first(object),
         4 => set_partitions::first(k, object),
-        5 => integer_partitions::first(1, n, object),
+        5 => integer_partitions::first(floor, n, object),
         6 => dyck_words::first(n, object),
         _ => {}
     }
@@ -65,12 +67,13 @@ pub fn last<'a>(f: Family, lists: Lists<'a>, object: &mut [u8])
     let kind = f.kind;
     let n = f.n;
     let k = f.k;
+    let floor = f.floor;
     match kind {
         1 => subsets::last(n, object),
         2 => anagrams::last(counts, object),
         3 => permutations::last(object),
         4 => set_partitions::last(k, object),
-        5 => integer_partitions::last(1, n, object),
+        5 => integer_partitions::last(floor, n, object),
         6 => dyck_words::last(n, object),
         _ => {}
     }
@@ -83,12 +86,13 @@ pub fn next<'a>(f: Family, lists: Lists<'a>, object: &mut [u8]) -> Step
     let kind = f.kind;
     let n = f.n;
     let k = f.k;
+    let floor = f.floor;
     match kind {
         1 => subsets::next(n, object),
         2 => anagrams::next(object),
         3 => anagrams::next(object),
         4 => set_partitions::next(k, object),
-        5 => integer_partitions::next(1, n, object),
+        5 => integer_partitions::next(floor, n, object),
         6 => dyck_words::next(n, object),
         _ => Step::End,
     }
@@ -101,12 +105,13 @@ pub fn previous<'a>(f: Family, lists: Lists<'a>, object: &mut [u8]) -> Step
     let kind = f.kind;
     let n = f.n;
     let k = f.k;
+    let floor = f.floor;
     match kind {
         1 => subsets::previous(n, object),
         2 => anagrams::previous(object),
         3 => anagrams::previous(object),
         4 => set_partitions::previous(k, object),
-        5 => integer_partitions::previous(1, n, object),
+        5 => integer_partitions::previous(floor, n, object),
         6 => dyck_words::previous(n, object),
         _ => Step::End,
     }
@@ -121,12 +126,13 @@ pub fn rank<'a>(f: Family, lists: Lists<'a>, object: &[u8]) -> u64
     let kind = f.kind;
     let n = f.n;
     let k = f.k;
+    let floor = f.floor;
     match kind {
         1 => subsets::rank(n, object),
         2 => anagram_ranks::rank(counts, object),
         3 => anagram_ranks::permutations::rank(object),
         4 => set_partitions::rank(k, object),
-        5 => integer_partitions::rank(1, n, object),
+        5 => integer_partitions::rank(floor, n, object),
         6 => dyck_ranks::rank(n, object),
         _ => 0,
     }
@@ -143,12 +149,13 @@ pub fn unrank<'a>(rank: u64, f: Family, lists: Lists<'a>, object: &mut [u8])
     let kind = f.kind;
     let n = f.n;
     let k = f.k;
+    let floor = f.floor;
     match kind {
         1 => subsets::unrank(rank, n, object),
         2 => anagram_ranks::unrank(rank, counts, object),
         3 => anagram_ranks::permutations::unrank(rank, object),
         4 => set_partitions::unrank(rank, k, object),
-        5 => integer_partitions::unrank(rank, 1, n, object),
+        5 => integer_partitions::unrank(rank, floor, n, object),
         6 => dyck_ranks::unrank(rank, n, object),
         _ => {}
     }

@@ -1,4 +1,4 @@
-// The seven calls on families of objects. No function has a `requires`: any kind, n, k, any lists and buffers of any length are answered, or
+// The seven calls on families of objects. No function has a `requires`: any family, any lists and buffers of any length are answered, or
 // refused by the number of the first question that they miss, and a refusal leaves every byte.
 ghost use mathlib.Core.Path.{_≡_};
 ghost use mathlib.Core.List.{map, []};
@@ -24,12 +24,13 @@ pub use questions::Verdict;
 pub use questions::ask;
 use table::Size;
 
-// "A family is passed by value: its kind, n and k, each an unsigned 64-bit number."
+// "A family is passed by value: its kind, n and k, each an unsigned 64-bit number." "A family gains a floor", which every part of kind 5 has at least.
 #[repr(C)]
 pub struct Family {
     pub kind: u64,
     pub n: u64,
     pub k: u64,
+    pub floor: u64,
 }
 
 // Everything lent beside a family, by place: the letter counts of kind 2.
@@ -66,11 +67,16 @@ pub enum Length {
     Refused(u8),
 }
 
-// A family of which no more is said than this: later fields have their defaults.
+// A family of which no more is said than this: the floor, and later fields, have their defaults.
 pub fn plain_family(kind: u64, n: u64, k: u64) -> Family
     ensures { λ r. ⌜ r ≡ plainFamily kind n k ⌝ }
 {
-    Family { kind, n, k }
+    Family {
+        kind,
+        n,
+        k,
+        floor: 1,
+    }
 }
 
 // Letter counts, and no other list.

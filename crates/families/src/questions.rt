@@ -90,6 +90,9 @@ pub fn asked_of_all<'a>(f: Family, lists: Lists<'a>) -> Verdict
     if !table::in_table(f, lists) {
         return Verdict::No(2);
     }
+    if !table::floor_fits(f) {
+        return Verdict::No(10);
+    }
     if !table::lists_fit(f, lists) {
         return Verdict::No(3);
     }

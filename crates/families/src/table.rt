@@ -1,21 +1,22 @@
 // The table of families in code: bounds, lists, lengths and counts, by kind.
 ghost use mathlib.Core.Path.{_≡_};
-ghost use mathlib.Core.Bool.{true, _&&_, _||_};
+ghost use mathlib.Core.Bool.{true, cond, _&&_, _||_};
 ghost use mathlib.Core.List.{map};
 ghost use Prim.Native.Nat.{ℕ, _+_, min};
 ghost use lib.Dec.{leb, ltb, eqb};
-ghost use Rattle.numbers.specs.Limits.{places};
+ghost use Rattle.numbers.specs.Limits.{places, branches};
 ghost use Rattle.numbers.specs.Sums.{total};
 ghost use Rattle.numbers.specs.Numbers.{stirlingOf};
 ghost use Rattle.counting.specs.Answers.{fits as fitsOf};
 ghost use Rattle.families.specs.Table.{lent};
-ghost use Rattle.families.specs.Families.{row, isKind, inTable, listsFit, allowed, objectLength, countOf};
+ghost use Rattle.families.specs.Families.{row, isKind, inTable, floorFits, listsFit, allowed, objectLength, countOf};
 ghost use Rattle.families.specs.Questions.{rankRefusal};
 ghost use Rattle.families.specs.inner.Sizes.{sizeAs};
 use crate::Family;
 use crate::Lists;
 use counting::Count;
 use numbers::BRANCHES;
+use numbers::FLOORS;
 use numbers::PLACES;
 
 // The last kind of the table.
@@ -35,37 +36,47 @@ pub fn is_kind(f: Family) -> bool
     1 <= f.kind && f.kind <= LAST_KIND
 }
 
-// The bounds of kinds 1, 4 and 5.
-fn both_bounded(n: u64, k: u64) -> bool
-    ensures { λ r. ⌜ r ≡ (leb n places && leb k places) ⌝ }
+// The largest n of a kind.
+fn most_n(kind: u64) -> u64
+    ensures { λ r. ⌜ r ≡ cond (eqb kind 6) branches places ⌝ }
 {
-    n <= PLACES && k <= PLACES
+    if kind == 6 {
+        return BRANCHES;
+    }
+    PLACES
 }
 
-// The bounds of the kinds that have no k.
-fn n_bounded(n: u64, k: u64, limit: u64) -> bool
-    ensures { λ r. ⌜ r ≡ (leb n limit && eqb k 0) ⌝ }
+// The largest k of a kind: 0 where it has none.
+fn most_k(kind: u64) -> u64
+    ensures { λ r. ⌜ r ≡ cond (eqb kind 1 || eqb kind 4 || eqb kind 5) places 0 ⌝ }
 {
-    n <= limit && k == 0
+    match kind {
+        1 => PLACES,
+        4 => PLACES,
+        5 => PLACES,
+        _ => 0,
+    }
 }
 
-// Question 2.
+// Question 2. It is put to every call, and goes by two limits rather than by an arm a kind: so the compiler takes the questions into each call.
 pub fn in_table<'a>(f: Family, lists: Lists<'a>) -> bool
     requires { ⌜ isKind f ≡ true ⌝ }
     ensures { λ r. ⌜ r ≡ inTable f (lent (map now (lists .entry))) ⌝ }
 {
-    let kind = f.kind;
-    let n = f.n;
-    let k = f.k;
-    match kind {
-        1 => both_bounded(n, k),
-        2 => n_bounded(n, k, PLACES),
-        3 => n_bounded(n, k, PLACES),
-        4 => both_bounded(n, k),
-        5 => both_bounded(n, k),
-        6 => n_bounded(n, k, BRANCHES),
-        _ => false,
+    f.n <= most_n(f.kind) && f.k <= most_k(f.kind)
+}
+
+// Question 10.
+pub fn floor_fits(f: Family) -> bool
+    ensures { λ r. ⌜ r ≡ floorFits f ⌝ }
+{
+    if f.floor == 1 {
+        return true;
     }
+    if f.kind != 5 {
+        return false;
+    }
+    1 <= f.floor && f.floor <= FLOORS
 }
 
 // The sum of the counts where it is within the places, and one more than the places where it isn't.
@@ -100,7 +111,7 @@ pub fn lists_fit<'a>(f: Family, lists: Lists<'a>) -> bool
     sum_to_limit(counts) <= PLACES
 }
 
-// Whether n things can be shared out over k blocks or parts with none left empty.
+// Whether n things can be shared out over k blocks with none left empty; over parts of a floor, k is what they have together at the least.
 fn shared_out(n: u64, k: u64) -> bool
     ensures { λ r. ⌜ r ≡ (leb k n && (ltb 0 k || eqb n 0)) ⌝ }
 {
@@ -121,12 +132,13 @@ pub fn has_object<'a>(f: Family, lists: Lists<'a>) -> bool
     let kind = f.kind;
     let n = f.n;
     let k = f.k;
+    let floor = f.floor;
     match kind {
         1 => k <= n,
         2 => true,
         3 => true,
         4 => shared_out(n, k),
-        5 => shared_out(n, k),
+        5 => shared_out(n, k * floor),
         6 => true,
         _ => false,
     }
@@ -161,12 +173,13 @@ fn count<'a>(f: Family, lists: Lists<'a>) -> Count
     let kind = f.kind;
     let n = f.n;
     let k = f.k;
+    let floor = f.floor;
     match kind {
         1 => counting::coefficient(n, k),
         2 => counting::multinomial(counts),
         3 => counting::factorial(n),
         4 => counting::stirling(n, k),
-        5 => counting::partitions(n, k),
+        5 => counting::partitions(floor, n, k),
         6 => counting::catalan(n),
         _ => Count::Exactly(0),
     }

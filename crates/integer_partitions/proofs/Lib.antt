@@ -2,6 +2,7 @@
 pub mod Facts
 pub mod Theorem
 pub mod Laws
+pub mod Floors
 pub mod Parts
 pub mod Extremes
 pub mod Moves

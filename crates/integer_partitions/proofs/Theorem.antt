@@ -9,7 +9,7 @@ use lib.Dec.{ltb}
 use lib.ListN.{length, length-map}
 use borrow.Author.Tests.{ltb-true}
 use Rattle.numbers.specs.Sums.{total, range}
-use Rattle.numbers.specs.Numbers.{partsFrom, partitionsOf}
+use Rattle.numbers.specs.Numbers.{partsFrom}
 use Rattle.numbers.proofs.Laws.{between, in-range, sumOver-cong}
 use Rattle.listings.specs.Bytes.{Bytes}
 use Rattle.listings.specs.Listings.{Ascending, none, more, Listing}
@@ -77,7 +77,3 @@ counted f (suc n) zero = refl
 counted f n (suc k) =
     length-flatMap (ending n k) (range f (suc n - f))
     ∙ sumOver-cong (range f (suc n - f)) (λ p m. length-map (integerPartitions p (n - p) k) (λ x. x ++ (p ∷ [])) ∙ counted p (n - p) k)
-
-pub counted-one : (n k : ℕ) → length (integerPartitions 1 n k) ≡ partitionsOf n k
-unfolding partitionsOf
-counted-one n k = counted 1 n k

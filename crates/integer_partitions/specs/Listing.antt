@@ -5,7 +5,7 @@ use Prim.Native.Nat.{ℕ, zero, suc, _-_}
 use Rattle.numbers.specs.Sums.{range}
 use Rattle.listings.specs.Bytes.{Bytes}
 
--- parts that are at least f, with the sum n, k of them; with 1 for f, kind 5 in its order (SCOPE 1.5, 2.5)
+-- k parts that are at least the floor f, with the sum n: kind 5 in its order (SCOPE 1.5, 1.e, 2.5)
 unfoldable pub integerPartitions : ℕ → ℕ → ℕ → List Bytes
 integerPartitions f zero zero = [] ∷ []
 integerPartitions f (suc n) zero = []

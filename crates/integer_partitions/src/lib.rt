@@ -1,4 +1,4 @@
-// Kind 5: partitions of the number n into k parts, each at least a floor, over lent byte slices. Called by `families` with the floor 1,
+// Kind 5: partitions of the number n into k parts, each at least a floor, over lent byte slices. Called by `families`,
 // which shows what each function requires. The steps need no counts.
 ghost use mathlib.Core.Path.{_≡_};
 ghost use mathlib.Core.Bool.{true};
@@ -16,7 +16,7 @@ mod search;
 
 use listings::Step;
 use listings::fill_with;
-use search::at_least;
+use partition_numbers::at_least;
 use search::part_to_lower;
 use search::part_to_raise;
 use search::sum;

@@ -5,7 +5,7 @@ ghost use lib.ListN.{length, take, getD};
 ghost use Rattle.numbers.specs.Limits.{places};
 ghost use Rattle.numbers.specs.Sums.{total};
 ghost use Rattle.numbers.specs.Numbers.{partsFrom};
-use partition_numbers::partitions;
+use partition_numbers::at_least;
 
 pub fn wide(b: u8) -> u64
     ensures { λ r. ⌜ r ≡ b ⌝ }
@@ -67,19 +67,6 @@ pub fn part_to_lower(floor: u64, object: &[u8]) -> usize
         i += 1;
     }
     k
-}
-
-// k parts of at least p with the sum n: shifted down by p - 1, so one read.
-pub fn at_least(p: u64, n: u64, k: u64) -> u64
-    requires { ⌜ (0 < p) × ((n ≤ places) × (k ≤ places)) ⌝ }
-    requires { ⌜ p ≤ 256 ⌝ }
-    ensures { λ r. ⌜ r ≡ partsFrom p n k ⌝ }
-{
-    let off = k * (p - 1);
-    if n < off {
-        return 0;
-    }
-    partitions(n - off, k)
 }
 
 // Those of k parts of at least the floor whose last part is below p. None where p is the floor, which is often so and spares the reads.

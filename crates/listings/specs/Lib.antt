@@ -2,6 +2,7 @@
 pub mod Bytes
 pub mod Orders
 pub mod Listings
+pub mod Kept
 pub mod Rows
 pub mod Places
 pub mod Calls

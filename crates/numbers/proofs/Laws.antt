@@ -10,7 +10,7 @@ pub use Rattle.numbers.proofs.Factorials.{factorial-rule, factorial-gro
 -- Stirling's recursion: a model alone in its block, or in one of the k blocks of the others
 pub use Rattle.numbers.proofs.Stirlings.{stirling-rule, stirling-corner, stirling-zero, stirling-none, stirling-positive, stirling-grows, stirling-grows-both}
 -- the partitions' recursion by the last part with a floor; parts at least f by a shift of f - 1; the floor one up; higher floor, fewer partitions
-pub use Rattle.numbers.proofs.PartitionLaws.{by-last-part, too-few, shift, floor-shift, next-floor, partitions-rule, partitions-corner, partitions-none, partitions-zero, partitions-positive, last-part-le, floor-le, floor-mono}
+pub use Rattle.numbers.proofs.PartitionLaws.{by-last-part, too-few, shift, floor-shift, next-floor, partitions-rule, partitions-corner, partitions-none, partitions-zero, nothing, no-parts, parts-positive, last-part-le, floor-le, floor-mono}
 -- Catalan's convolution, and that each product in it is at most the whole
 pub use Rattle.numbers.proofs.Catalans.{convolution, product-le, catalan-zero, catalan-positive, catalan-grows, catalan-mono}
 -- sums over choices and ranges

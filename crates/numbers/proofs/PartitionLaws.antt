@@ -20,7 +20,7 @@ unfolding partsFrom
 any-floor f g zero = refl
 any-floor f g (suc n) = refl
 
-nothing : (f : ℕ) → partsFrom f 0 0 ≡ 1
+pub nothing : (f : ℕ) → partsFrom f 0 0 ≡ 1
 unfolding partsFrom
 nothing f = refl
 
@@ -93,20 +93,24 @@ unfolding partitionsOf
 partitions-none n k lt = too-few 1 n k (rw mul-one lt)
 
 pub partitions-corner : partitionsOf 0 0 ≡ 1
-unfolding partitionsOf partsFrom
-partitions-corner = refl
+unfolding partitionsOf
+partitions-corner = nothing 1
+
+pub no-parts : (f n : ℕ) → 0 < n → partsFrom f n 0 ≡ 0
+unfolding partsFrom
+no-parts f zero pos = absurd (omega arith)
+no-parts f (suc n) pos = refl
 
 pub partitions-zero : (n : ℕ) → 0 < n → partitionsOf n 0 ≡ 0
-unfolding partitionsOf partsFrom
-partitions-zero zero pos = absurd (omega arith)
-partitions-zero (suc n) pos = refl
-
-pub partitions-positive : (n k : ℕ) → 0 < k → k ≤ n → 1 ≤ partitionsOf n k
 unfolding partitionsOf
-partitions-positive n zero pos le = absurd (omega arith)
-partitions-positive n (suc zero) pos le = omega (arith, nothing n, rw sub-self at (last-part-le 1 n 0 n le (omega arith)))
-partitions-positive n (suc (suc k)) pos le =
-    omega (arith, partitions-positive (n - 1) (suc k) (omega arith) (omega arith), last-part-le 1 n (suc k) 1 (omega arith) (omega arith))
+partitions-zero n pos = no-parts 1 n pos
+
+pub parts-positive : (f n k : ℕ) → 0 < k → k * f ≤ n → 1 ≤ partsFrom f n k
+parts-positive f n zero pos le = absurd (omega arith)
+parts-positive f n (suc zero) pos le = omega (arith, nothing n, rw sub-self at (last-part-le f n 0 n (omega arith) (omega arith)))
+parts-positive f n (suc (suc k)) pos le =
+    let more : suc (suc k) * f ≡ suc k * f + f = suc-mul (suc k) f in
+    omega (arith, parts-positive f (n - f) (suc k) (omega arith) (omega arith), last-part-le f n (suc k) f (omega arith) (omega arith))
 
 -- with at least as many parts as are left when each has given one, it makes no difference how many there are
 

@@ -13,3 +13,7 @@ longestObject = places
 -- kind 6: "n branches, 0 to 40" (SCOPE 1.6)
 abbrev pub branches : ℕ
 branches = 40
+
+-- "is the floor 1 to 80 .. ?" (SCOPE 4.10), which is no number of places
+abbrev pub floors : ℕ
+floors = 80

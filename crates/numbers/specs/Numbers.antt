@@ -40,13 +40,14 @@ stirlingOf zero (suc k) = 0
 stirlingOf (suc n) zero = 0
 stirlingOf (suc n) (suc k) = stirlingOf n k + suc k * stirlingOf n (suc k)
 
--- weakly descending parts, each at least f, with the sum n, k of them: the last is p, and the others are at least p
+-- kind 5, "k parts, .. weakly descending, sum n", "every part of kind 5 is at least that floor" f: the last is p, and the others are at least p
+-- (SCOPE 1.5, 1.e, 6.5)
 unfoldable pub partsFrom : ℕ → ℕ → ℕ → ℕ
 partsFrom f zero zero = 1
 partsFrom f (suc n) zero = 0
 partsFrom f n (suc k) = sumOver (range f (suc n - f)) (λ p. partsFrom p (n - p) k)
 
--- kind 5, "k parts, each at least 1, weakly descending, sum n" (SCOPE 1.5, 6.5)
+-- "Floor 1 is the split of old": "k parts, each at least 1, weakly descending, sum n" (SCOPE 1.5, 1.e, 6.5)
 unfoldable pub partitionsOf : ℕ → ℕ → ℕ
 partitionsOf n k = partsFrom 1 n k
 

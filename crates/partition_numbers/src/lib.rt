@@ -1,10 +1,10 @@
-// The number of partitions of n into exactly k parts, for all within the places. A number is named by e = n - k, what is left when each part has one, and its
+// The number of partitions of n into exactly k parts, each at least a floor, for all within the places. A number is named by e = n - k, what is left when each part has one, and its
 // column k. Only the even columns are stored, from e = k - 1 on: with more parts than e it makes no difference how many there are. A number of an odd
 // column is the difference of two of the next.
 ghost use mathlib.Core.Path.{_≡_};
 ghost use Prim.Native.Nat.{_+_, _*_, _%_, _≤_, _<_};
 ghost use Rattle.numbers.specs.Limits.{places};
-ghost use Rattle.numbers.specs.Numbers.{partitionsOf};
+ghost use Rattle.numbers.specs.Numbers.{partsFrom, partitionsOf};
 
 mod words;
 
@@ -44,7 +44,7 @@ fn column(e: u64, j: u64) -> u64
 }
 
 // The count of the partitions of n into exactly k parts.
-pub fn partitions(n: u64, k: u64) -> u64
+fn partitions(n: u64, k: u64) -> u64
     requires { ⌜ n ≤ places ⌝ }
     ensures { λ r. ⌜ r ≡ partitionsOf n k ⌝ }
 {
@@ -66,4 +66,17 @@ pub fn partitions(n: u64, k: u64) -> u64
         return 0;
     }
     column(e, k)
+}
+
+// The same with every part at least the floor: floor - 1 is taken off each part, so one number is read.
+pub fn at_least(floor: u64, n: u64, k: u64) -> u64
+    requires { ⌜ (0 < floor) × ((n ≤ places) × (k ≤ places)) ⌝ }
+    requires { ⌜ floor ≤ 256 ⌝ }
+    ensures { λ r. ⌜ r ≡ partsFrom floor n k ⌝ }
+{
+    let off = k * (floor - 1);
+    if n < off {
+        return 0;
+    }
+    partitions(n - off, k)
 }

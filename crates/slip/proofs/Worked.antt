@@ -6,7 +6,7 @@ use Rattle.listings.specs.Bytes.{Bytes}
 use Rattle.listings.specs.Calls.{orElse, firstNo}
 use Rattle.subsets.specs.Listing.{subsets}
 use Rattle.families.specs.Table.{noCounts, subsetRow, table}
-use Rattle.families.specs.Families.{row, isKind, inTable, listsFit, askedOfAll, allYes, allowed, listing, countOf}
+use Rattle.families.specs.Families.{row, isKind, inTable, floorFits, listsFit, askedOfAll, allYes, allowed, listing, countOf}
 use Rattle.families.specs.Questions.{asked, isIn, put, opening, closingFor, refusal}
 use Rattle.columns.specs.Columns.{column, justified}
 use Rattle.columns.specs.Fields.{digits, field}
@@ -30,5 +30,5 @@ workedText =
     ++ ((32 ∷ 32 ∷ 32 ∷ 32 ∷ 32 ∷ 32 ∷ 32 ∷ 32 ∷ 32 ∷ 32 ∷ 32 ∷ 32 ∷ 32 ∷ 32 ∷ 32 ∷ 32 ∷ 32 ∷ 69 ∷ 78 ∷ 68 ∷ 10 ∷ []))))))))
 
 pub worked : output workedSlip ≡ workedText
-unfolding refusal opening closingFor firstNo put asked isIn orElse isKind inTable listsFit askedOfAll allYes allowed row table subsetRow noCounts listing countOf flatMap subsets column justified digits field consField fields line familyOf countsOn secondLine handedOn withCounts slipWith slipFrom slipOf familyColumns firstLine objectLine objectLines lastLine body listedText said familyText textOf output
+unfolding refusal opening closingFor firstNo put asked isIn orElse isKind inTable floorFits listsFit askedOfAll allYes allowed row table subsetRow noCounts listing countOf flatMap subsets column justified digits field consField fields line familyOf countsOn secondLine handedOn withCounts slipWith slipFrom slipOf familyColumns firstLine objectLine objectLines lastLine body listedText said familyText textOf output
 worked = refl

@@ -1,6 +1,6 @@
 // Runs the cases of the files that its arguments name. A case is a line, with one blank between any two words:
 //
-//     LABEL: LETTERS RANK / KIND N K / OBJECT / COUNTS
+//     LABEL: LETTERS RANK / KIND N K FLOOR / OBJECT / COUNTS
 //
 // Numbers missing at the end of a section are 0, and sections missing at the end of the line are empty. For each letter it prints a line with
 // the label and what the letter asks of that family with those counts, that rank and that object:
@@ -16,7 +16,8 @@
 // The cases and the expected text, `stdout`, that of the files in turn, are written by tests/expected/calls.py. `small_families` and
 // `listings`: strings filtered by the table's words and sorted by a comparison written from "Which of two objects comes first". `refusals`
 // and `large_families` (at both edges of 2^64 and at 80 places): objects by rank, counted place by place as Loehr does, a step being the
-// rank one up or down; so there the order rests on the same recursion as our listings.
+// rank one up or down; so there the order rests on the same recursion as our listings. `floors`: kind 5 with floors, small ones the first way,
+// large ones the second, and floors that are refused, on every kind.
 //
 // `published` has the worked examples of the sources that concern these orders, beyond the twelve proof cases, with the number of each
 // example, typed from the sources: Loehr's chapter (000) 5.20 to 5.41, and Loehr 2019 (004) 3.1 and 3.3. Letters a, b, .. are written
@@ -126,7 +127,11 @@ fn family(line: &[u8], start: usize) -> Family {
     let kind = decimal(line, start);
     let n = decimal(line, kind.end);
     let k = decimal(line, n.end);
-    families::plain_family(kind.value, n.value, k.value)
+    let floor = decimal(line, k.end);
+    Family {
+        floor: floor.value,
+        ..families::plain_family(kind.value, n.value, k.value)
+    }
 }
 
 // The sections from the object on: it is read, then the lists lent beside the family, and the letters are asked.

@@ -1,9 +1,11 @@
-// Prints the counts that the lines of standard input ask for, on each side of 2^64, and then every count of one number or two, so all but the
-// multinomials, within the limits and one step beyond them. A line of the input is the text to print, a colon, and the numbers: n and k, or the counts of a multinomial.
+// Prints the counts that the lines of standard input ask for, on each side of 2^64 and of the limits, and then every count of n alone or of n and
+// k, so all but the multinomials, within the limits and one step beyond them: of partitions with floor 1 and with floor 2. A line of the input is the
+// text to print, a colon, and the numbers: n and k, behind them the floor of partitions, or the counts of a multinomial. A text says a floor behind n
+// and k, and only where it isn't 1.
 //
 // The expected text, `stdout`, is written by tests/expected/counts.py: math.comb and math.factorial for binomials, factorials and Catalan
-// numbers, factorials for multinomials, the alternating sum over binomials for Stirling numbers (not their recursion), and the number of
-// partitions of n - k into parts of at most k, by adding one part size after the other, for partitions.
+// numbers, factorials for multinomials, the alternating sum over binomials for Stirling numbers (not their recursion), and for partitions one part
+// size after the other from the floor up, counting the parts. Of these the sums over k are held to Euler's pentagonal recurrence.
 ghost use Prim.Native.Nat.{_≤_, _+_};
 ghost use Rattle.numbers.specs.Limits.{places};
 use counting::Count;
@@ -31,12 +33,12 @@ fn answer(c: Count) {
     text(b"\n");
 }
 
-// The count whose name begins with the letter.
-fn count(letter: u8, n: u64, k: u64) -> Count {
+// The count whose name begins with the letter; only partitions have a floor.
+fn count(letter: u8, n: u64, k: u64, floor: u64) -> Count {
     match letter {
         b'b' => counting::subset_count(n, k),
         b's' => counting::stirling(n, k),
-        b'p' => counting::partitions(n, k),
+        b'p' => counting::partitions(floor, n, k),
         b'f' => counting::factorial(n),
         _ => counting::catalan(n),
     }
@@ -55,14 +57,22 @@ fn name(letter: u8) {
 fn one(letter: u8, n: u64) {
     name(letter);
     number(n);
-    answer(count(letter, n, 0));
+    answer(count(letter, n, 0, 1));
 }
 
 fn two(letter: u8, n: u64, k: u64) {
     name(letter);
     number(n);
     number(k);
-    answer(count(letter, n, k));
+    answer(count(letter, n, k, 1));
+}
+
+fn three(letter: u8, n: u64, k: u64, floor: u64) {
+    name(letter);
+    number(n);
+    number(k);
+    number(floor);
+    answer(count(letter, n, k, floor));
 }
 
 // The largest two numbers stand for no count: they have prime factors above the largest n, and a binomial has none.
@@ -95,6 +105,7 @@ fn rows(n: u64)
         two(b'b', n, k);
         two(b's', n, k);
         two(b'p', n, k);
+        three(b'p', n, k, 2);
         k += 1;
     }
     one(b'f', n);
@@ -117,7 +128,8 @@ fn edge(letter: u8, line: &[u8]) {
     }
     let n = decimal(line, start);
     let k = decimal(line, n.end);
-    answer(count(letter, n.value, k.value));
+    let floor = decimal(line, k.end);
+    answer(count(letter, n.value, k.value, floor.value));
 }
 
 fn edges(s: &[u8]) {

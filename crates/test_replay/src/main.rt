@@ -1,6 +1,6 @@
 // Replays the cases of the files that its arguments name. A case is a line, with one blank between any two words:
 //
-//     LABEL: CALLS / RANKS / KIND N K / OBJECT / COUNTS / ANSWERS TRAIL
+//     LABEL: CALLS / RANKS / KIND N K FLOOR / OBJECT / COUNTS / ANSWERS TRAIL
 //
 // Calls are written by their codes, a rank stands beside each, and last come the lengths of the two buffers that are only written. It prints
 // a line a case: the label, whether the calls ran, the codes of the answers, the bytes after the calls, one call's behind the other's, and
@@ -9,7 +9,8 @@
 // The cases and the expected text, `stdout`, that of the files in turn, are written by tests/expected/replays.py, with a marker on the
 // listing that is fed no answer. `small_families`: every kind, to END and beyond, there and back, through the ranks, from bytes that are no
 // object, and calls in no order. `refusals`: lists of calls in which each question is missed. `large_families`: at both edges of 2^64 and at
-// 80 places. `misfits`: codes that are no call's, and buffers of another length.
+// 80 places. `misfits`: codes that are no call's, and buffers of another length. `floors`: kind 5 with floors, and floors that are refused, on
+// every kind.
 ghost use Prim.Native.Nat.{_≤_};
 ghost use lib.ListN.{length};
 use families::Family;
@@ -92,7 +93,11 @@ fn family(line: &[u8], start: usize) -> Family {
     let kind = decimal(line, start);
     let n = decimal(line, kind.end);
     let k = decimal(line, n.end);
-    families::plain_family(kind.value, n.value, k.value)
+    let floor = decimal(line, k.end);
+    Family {
+        floor: floor.value,
+        ..families::plain_family(kind.value, n.value, k.value)
+    }
 }
 
 // The sections from the family on: the object is read, then the lists lent beside the family.

@@ -1,6 +1,6 @@
 // Walks the cases of the files that its arguments name. A case is a line, with one blank between any two words:
 //
-//     LABEL: KIND N K / LEN NUMBER / BYTES; COUNTS / ROOM STEPS; COUNTS / ROOM STEPS ..
+//     LABEL: KIND N K FLOOR / LEN NUMBER / BYTES; COUNTS / ROOM STEPS; COUNTS / ROOM STEPS ..
 //
 // A walk is made up of that length, that number and those bytes, with 0 behind them in its array; or it starts at the bytes, with the counts
 // that stand first, where LEN and NUMBER are missing. Then come its legs: the counts handed in, room for so many answers, and the steps, 1
@@ -16,10 +16,11 @@
 // The cases and the expected text, `stdout`, that of the files in turn, are written by tests/expected/walks.py, on the listings.
 // `small_families`: every kind, from each object to END and beyond, there and back, zigzag, in no order. `made_up`: numbers, lengths and
 // bytes that no start gives. `refusals`: each question missed, and others behind it. `lists_change`: other counts between the steps.
-// `large_families`: at both edges of 2^64 and at 80 places.
+// `large_families`: at both edges of 2^64 and at 80 places. `floors`: kind 5 with floors, and floors that are refused, on every kind.
 ghost use mathlib.Core.Path.{_≡_};
 ghost use Prim.Native.Nat.{_≤_};
 ghost use lib.ListN.{length, take};
+use families::Family;
 use families::Lists;
 use families::Ranked;
 use families::codes;
@@ -60,7 +61,7 @@ fn ranked(answer: Ranked) {
 fn summed(walk: Walk) {
     let f = walk.family;
     let array = walk.bytes;
-    let family = mixed(mixed(mixed(0, f.kind), f.n), f.k);
+    let family = mixed(mixed(mixed(mixed(0, f.kind), f.n), f.k), f.floor);
     text(b" digest");
     number(digest(mixed(mixed(family, walk.len), walk.number), &array));
 }
@@ -177,12 +178,22 @@ fn legs<'a>(begun: Walk, first: Lists<'a>, line: &[u8], start: usize) -> Walk
     walk
 }
 
+// The family that a section says.
+fn family(line: &[u8], start: usize) -> Family {
+    let kind = decimal(line, start);
+    let n = decimal(line, kind.end);
+    let k = decimal(line, n.end);
+    let floor = decimal(line, k.end);
+    Family {
+        floor: floor.value,
+        ..families::plain_family(kind.value, n.value, k.value)
+    }
+}
+
 // The walk that the head of a line says.
 fn begun<'a>(head: &[u8], first: Lists<'a>) -> Walk {
     let start = behind(head, 0, b':');
-    let kind = decimal(head, start);
-    let n = decimal(head, kind.end);
-    let f = families::plain_family(kind.value, n.value, decimal(head, n.end).value);
+    let f = family(head, start);
     let second = behind(head, start, b'/');
     let third = behind(head, second, b'/');
     let mut said = [0u64; 2];

@@ -2,18 +2,20 @@
 
 use std::os::raw::c_uint;
 
-/// A family as it crosses, by value. Make one by `of`: later fields then have their defaults.
+/// A family as it crosses, by value. Make one by `of`: the floor is then 1, and later fields have their defaults. With another floor:
+/// `Family { floor: 2, ..Family::of(5, 9, 3) }`.
 #[repr(C)]
 #[derive(Clone, Copy, Debug)]
 pub struct Family {
     pub kind: u64,
     pub n: u64,
     pub k: u64,
+    pub floor: u64,
 }
 
 impl Family {
     pub fn of(kind: u64, n: u64, k: u64) -> Self {
-        Family { kind, n, k }
+        Family { kind, n, k, floor: 1 }
     }
 }
 
@@ -59,9 +61,10 @@ pub const DONE: Code = 0;
 /// None follows, precedes or stands there.
 pub const END: Code = 100;
 
-// Refusals, by the number of the first question that is answered by no.
+// Refusals, by the number of the first question that is answered by no, in the order in which questions are put.
 pub const REFUSED_KIND: Code = 1;
 pub const REFUSED_BOUNDS: Code = 2;
+pub const REFUSED_FLOOR: Code = 10;
 pub const REFUSED_LETTER_COUNTS: Code = 3;
 pub const REFUSED_NO_OBJECTS: Code = 4;
 pub const REFUSED_OVERFLOW: Code = 5;

@@ -1,6 +1,6 @@
-//! A number for an arrangement, the arrangement for a number, one step on and back, a walk, jumps. Build and run: examples/rust/run
+//! A number for an arrangement, the arrangement for a number, one step on and back, a walk, jumps, a floor. Build and run: examples/rust/run
 
-use arrangements_example::{Arrangements, Family, DONE, END, REFUSED_RANK};
+use arrangements_example::{Arrangements, Family, DONE, END, REFUSED_FLOOR, REFUSED_RANK};
 
 /// Jumps: 100 places back, as many on, and off the listing, which is END.
 fn jumps(plans: &Arrangements, plan: &mut [u8]) {
@@ -13,6 +13,20 @@ fn jumps(plans: &Arrangements, plan: &mut [u8]) {
     assert_eq!(plans.jump(i64::MAX, plan), END);
     assert_eq!(plan, start);
     println!("too far on: END, and the plan stays");
+}
+
+/// All partitions of 9 into 3 parts of at least 2, by number; and no other kind has a floor but 1.
+fn floors() {
+    let partitions = Arrangements { family: Family { floor: 2, ..Family::of(5, 9, 3) }, counts: vec![] };
+    let (mut all, mut parts) = (0, [0u8; 3]);
+    assert_eq!(partitions.count(&mut all), DONE);
+    for number in 0..all {
+        assert_eq!(partitions.unrank(number, &mut parts), DONE);
+        println!("9 into 3 parts, floor 2   {parts:?}");
+    }
+    let orders = Arrangements { family: Family { floor: 2, ..Family::of(3, 3, 0) }, counts: vec![] };
+    assert_eq!(orders.first(&mut parts), REFUSED_FLOOR);
+    println!("a permutation with floor 2 is refused");
 }
 
 fn main() {
@@ -41,6 +55,7 @@ fn main() {
     }
 
     jumps(&plans, &mut plan);
+    floors();
 
     assert_eq!(plans.last(&mut plan), DONE);
     let last = plan;

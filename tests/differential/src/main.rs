@@ -24,12 +24,13 @@ impl Random {
 
 const CALLS: [&str; 8] = ["LENGTH", "COUNT", "FIRST", "LAST", "NEXT", "PREVIOUS", "RANK", "UNRANK"];
 
-/// A family, mostly one that the table allows; some at the edges of 2^64.
-fn family(r: &mut Random) -> Kind {
+/// Kind, n and k, with their counts, of any size.
+fn sizes(r: &mut Random) -> Kind {
     let kind = 1 + r.below(6);
     let top = [4, 8, 12, 27, 68, 81][r.below(6) as usize];
     let (mut n, mut k, mut counts) = (r.below(top), 0, vec![]);
     match kind {
+        5 if r.below(2) == 0 => (n, k) = (r.below(81), 1 + r.below(8)), // few parts: many floors leave more than one object
         1 | 4 | 5 => k = if r.below(8) == 0 { r.below(82) } else { r.below(n + 2) },
         2 => {
             n = r.below(if top > 40 { 81 } else { top }.min(81));
@@ -39,15 +40,44 @@ fn family(r: &mut Random) -> Kind {
         6 => n = r.below(top.min(42)),
         _ => {}
     }
-    if r.below(6) == 0 {
-        let edges = [(1, 67, 33), (1, 68, 34), (1, 80, 21), (1, 80, 22), (3, 20, 0), (3, 21, 0), (4, 26, 9), (4, 27, 8), (4, 65, 2), (4, 66, 2), (5, 80, 18), (6, 36, 0), (6, 37, 0), (6, 40, 0), (4, 80, 40), (1, 80, 40)];
-        let (a, b, c) = edges[r.below(edges.len() as u64) as usize];
-        return Kind { kind: a, n: b, k: c, counts: vec![] };
+    Kind::of(kind, n, k, counts)
+}
+
+/// Families at the edges of 2^64 and of 80 places, and integer partitions with the largest floors.
+const EDGES: [(u64, u64, u64); 20] = [
+    (1, 67, 33), (1, 68, 34), (1, 80, 21), (1, 80, 22), (1, 80, 40), (3, 20, 0), (3, 21, 0), (4, 26, 9), (4, 27, 8), (4, 65, 2), (4, 66, 2), (4, 80, 40),
+    (5, 80, 18), (5, 80, 20), (5, 80, 2), (5, 80, 1), (5, 0, 0), (6, 36, 0), (6, 37, 0), (6, 40, 0),
+];
+
+/// A floor. For kind 5 one round question 10's edges or round n / k, beyond which there are no objects, one that leaves objects, a small one, or 1; for
+/// the other kinds nearly always 1.
+fn floor(r: &mut Random, f: &Kind) -> u64 {
+    let edge = [0, 2, 79, 80, 81, u64::MAX, r.next()][r.below(7) as usize];
+    if f.kind != 5 {
+        return if r.below(32) == 0 { edge } else { 1 };
     }
-    let mut f = Kind { kind, n, k, counts };
+    let most = f.n.checked_div(f.k).unwrap_or(80);
+    match r.below(8) {
+        0 => edge,
+        1 => (most + r.below(3)).saturating_sub(1),
+        2 | 3 => 1 + r.below(most.max(1)),
+        4 | 5 => 1 + r.below(8),
+        _ => 1,
+    }
+}
+
+/// A family, mostly one that the questions let pass; some at the edges.
+fn family(r: &mut Random) -> Kind {
+    let edge = r.below(6) == 0;
+    let (kind, n, k) = EDGES[r.below(20) as usize];
+    let mut f = if edge { Kind::of(kind, n, k, vec![]) } else { sizes(r) };
+    f.floor = floor(r, &f);
+    if edge {
+        return f;
+    }
     match r.below(40) {
         0 => f.kind = r.below(9),
-        1 => f.n = r.next(),
+        1 => f.n = [41, 81, r.next()][r.below(3) as usize],
         2 => f.k = r.next(),
         3 => f.counts.push(r.below(256) as u8),
         4 => f.kind = r.next(),
@@ -86,7 +116,7 @@ fn shuffled(r: &mut Random, f: &Kind) -> Vec<u8> {
     x
 }
 
-/// A buffer: an object, an object with a byte changed, or any bytes of some length.
+/// A buffer: an object, an object with a byte changed, one of a lower floor, or any bytes of some length.
 fn buffer(r: &mut Random, t: &Tables, f: &Kind, usable: bool) -> Vec<u8> {
     if !usable || r.below(12) == 0 {
         return (0..r.below(90)).map(|_| r.below(5) as u8).collect();
@@ -97,6 +127,10 @@ fn buffer(r: &mut Random, t: &Tables, f: &Kind, usable: bool) -> Vec<u8> {
         1 => count - 1,
         _ => (((r.next() as u128) << 40) ^ r.next() as u128) % count,
     };
+    if f.floor > 1 && r.below(6) == 0 {
+        let lower = Kind { floor: 1 + r.below(f.floor - 1), ..f.clone() };
+        return lower.unrank(t, r.next() as u128 % lower.count(t));
+    }
     let mut x = if count >= LARGE && f.kind < 5 && r.below(4) > 0 { shuffled(r, f) } else { f.unrank(t, rank) };
     match r.below(10) {
         0 if !x.is_empty() => {
@@ -114,7 +148,7 @@ fn buffer(r: &mut Random, t: &Tables, f: &Kind, usable: bool) -> Vec<u8> {
 
 /// A call in words; its number is a rank, what a walk keeps, or how far a jump goes.
 fn describe(f: &Kind, call: &str, number: i128, x: &[u8]) -> String {
-    format!("{call} on kind {} n {} k {} counts {:?} number {number} bytes {x:?}", f.kind, f.n, f.k, f.counts)
+    format!("{call} on kind {} n {} k {} floor {} counts {:?} number {number} bytes {x:?}", f.kind, f.n, f.k, f.floor, f.counts)
 }
 
 /// Is y just after x? y is a larger object, and its rank is one more; in a family whose ranks the reference cannot tell, among the objects that
@@ -128,7 +162,7 @@ fn is_next(t: &Tables, f: &Kind, x: &[u8], y: &[u8]) -> bool {
 }
 
 fn library(f: &Kind) -> Arrangements {
-    Arrangements { family: Family::of(f.kind, f.n, f.k), counts: f.counts.clone() }
+    Arrangements { family: Family { floor: f.floor, ..Family::of(f.kind, f.n, f.k) }, counts: f.counts.clone() }
 }
 
 /// Has the family objects, and so a count that the reference can be asked for?
@@ -287,9 +321,11 @@ fn main() {
         let (lib, usable) = (library(&f), usable(&t, &f));
         let x = buffer(&mut r, &t, &f, usable);
         let call = CALLS[r.below(8) as usize];
+        let ranks = if usable { f.count(&t).min(u64::MAX as u128) as u64 } else { 1 };
         let rank = match r.below(4) {
             0 => r.below(100),
-            1 if usable => (f.count(&t).min(u64::MAX as u128)) as u64 - r.below(2),
+            1 => ranks - r.below(2),
+            2 => r.below(ranks),
             _ => r.next(),
         };
         let (mut y, mut value) = (x.clone(), 77u64);

@@ -72,10 +72,16 @@ pub struct Kind {
     pub kind: u64,
     pub n: u64,
     pub k: u64,
+    pub floor: u64,
     pub counts: Vec<u8>,
 }
 
 impl Kind {
+    /// A family of which no more is said than this.
+    pub fn of(kind: u64, n: u64, k: u64, counts: Vec<u8>) -> Self {
+        Kind { kind, n, k, floor: 1, counts }
+    }
+
     pub fn letters(&self) -> Vec<usize> {
         if self.kind == 3 { vec![1; self.n as usize] } else { self.counts.iter().map(|&c| c as usize).collect() }
     }
@@ -92,31 +98,32 @@ impl Kind {
                     1 => (self.n, end as u64),
                     _ => (end as u64, most),
                 };
-                (Kind { kind: self.kind, n, k, counts: vec![] }, x[..end].to_vec(), y[..end].to_vec())
+                (Kind::of(self.kind, n, k, vec![]), x[..end].to_vec(), y[..end].to_vec())
             }
             2 | 3 => {
                 let start = (0..x.len()).find(|&i| x[i] != y[i]).unwrap_or(x.len());
                 let mut left: Vec<u8> = self.letters().iter().map(|&c| c as u8).collect();
                 x[..start].iter().for_each(|&a| left[a as usize - 1] -= 1);
-                (Kind { kind: 2, n: left.len() as u64, k: 0, counts: left }, x[start..].to_vec(), y[start..].to_vec())
+                (Kind::of(2, left.len() as u64, 0, left), x[start..].to_vec(), y[start..].to_vec())
             }
             _ => (self.clone(), x.to_vec(), y.to_vec()),
         }
     }
 
-    /// Questions 1 to 3.
+    /// The first of questions 1, 2, 10 and 3 that refuses, or 0.
     fn table(&self) -> u32 {
         let (n, k) = (self.n, self.k);
         let sum: u64 = self.counts.iter().map(|&c| c as u64).sum();
         match self.kind {
+            0 | 7.. => 1,
             1 | 4 | 5 if n > 80 || k > 80 => 2,
             2 | 3 if n > 80 || k != 0 => 2,
             6 if n > 40 || k != 0 => 2,
+            5 if self.floor < 1 || self.floor > 80 => 10,
+            1..=4 | 6 if self.floor != 1 => 10,
             2 if self.counts.len() as u64 != n || sum > 80 => 3,
-            2 => 0,
             1 | 3..=6 if !self.counts.is_empty() => 3,
-            1 | 3..=6 => 0,
-            _ => 1,
+            _ => 0,
         }
     }
 
@@ -135,7 +142,7 @@ impl Kind {
             1 => t.choose[n][k],
             2 | 3 => t.words(&self.letters()),
             4 => t.blocks[n][k],
-            5 => t.parts[k][1][n],
+            5 => t.parts[k][self.floor as usize][n],
             _ => t.catalan[n],
         }
     }
@@ -152,7 +159,7 @@ impl Kind {
                 let firsts: Vec<_> = (1..=k).map(|b| x.iter().position(|&a| a as usize == b)).collect();
                 x.iter().all(|&a| a >= 1 && a as usize <= k) && firsts.iter().all(|p| p.is_some()) && firsts.windows(2).all(|w| w[0] < w[1])
             }
-            5 => x.iter().all(|&a| a >= 1) && x.windows(2).all(|w| w[0] >= w[1]) && x.iter().map(|&a| a as u64).sum::<u64>() == self.n,
+            5 => x.iter().all(|&a| a as u64 >= self.floor) && x.windows(2).all(|w| w[0] >= w[1]) && x.iter().map(|&a| a as u64).sum::<u64>() == self.n,
             _ => {
                 let mut height = 0i64;
                 x.iter().all(|&a| {
@@ -217,7 +224,7 @@ impl Kind {
                 }
             }
             5 => {
-                let mut p = 1;
+                let mut p = self.floor as usize;
                 while k > 0 {
                     while r >= t.parts[k - 1][p][n - p] {
                         r -= t.parts[k - 1][p][n - p];
@@ -264,7 +271,7 @@ impl Kind {
                 r
             }
             5 => {
-                let (mut r, mut n, mut f) = (0, self.n as usize, 1);
+                let (mut r, mut n, mut f) = (0, self.n as usize, self.floor as usize);
                 for i in (0..x.len()).rev() {
                     for p in f..x[i] as usize {
                         r = add(r, if p <= n { t.parts[i][p][n - p] } else { 0 });

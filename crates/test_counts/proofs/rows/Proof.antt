@@ -29,6 +29,9 @@ two-requires-2 c κs = search needs
 two-requires-3 : tie.Need-two-requires-3 Inv-loop μ-loop
 two-requires-3 c κs = search needs
 
+three-requires : tie.Need-three-requires Inv-loop μ-loop
+three-requires c κs = search needs
+
 add-k : tie.Need-add-k Inv-loop μ-loop
 add-k c = search needs
 
@@ -59,6 +62,7 @@ rows-spec =
     two-requires
     two-requires-2
     two-requires-3
+    three-requires
     add-k
     loop-less
     loop-again

@@ -72,7 +72,7 @@ last-requires-4 : tie.Need-last-requires-4
 unfolding table setPartitionRow
 last-requires-4 c κs =
     let t = long-n 4 _ _ (c .before .before .before .before .args .object .now) (c .before .match .keys4) (c .before .before .before .before .pre .0) (c .before .before .before .before .pre .1 .1) refl in
-    (n-within _ _ _ (t .bounds), shared _ _ (t .some (c .before .before .before .before .pre .1 .0)))
+    (n-within _ _ _ (t .bounds), shared _ _ _ (t .some (c .before .before .before .before .pre .1 .0)))
 
 same-length-4 : tie.Need-same-length-4
 same-length-4 c = search needs
@@ -89,8 +89,8 @@ last-requires-5 : tie.Need-last-requires-5
 unfolding table integerPartitionRow
 last-requires-5 c κs =
     let t = long-k 5 _ _ (c .before .before .before .before .args .object .now) (c .before .match .keys5) (c .before .before .before .before .pre .0) (c .before .before .before .before .pre .1 .1) refl in
-    let p = shared (c .before .before .before .before .args .f .n) (length (c .before .before .before .before .args .object .now)) (t .some (c .before .before .before .before .pre .1 .0)) in
-    ((n-within _ _ _ (t .bounds), omega (arith, p .0)), p .1)
+    let p = shared _ _ _ (t .some (c .before .before .before .before .pre .1 .0)) in
+    ((n-within _ _ _ (t .bounds), p .0), p .1)
 
 same-length-5 : tie.Need-same-length-5
 same-length-5 c = search needs

@@ -7,7 +7,7 @@ use denote.Ref.{now}
 use borrow.Author.Needs.{needs}
 use Rattle.anagrams.specs.Permutations.{ones}
 use Rattle.families.specs.Table.{subsetRow, anagramRow, permutationRow, setPartitionRow, integerPartitionRow, dyckWordRow, table}
-use Rattle.families.proofs.FamilyFacts.{has-arm, object-allowed}
+use Rattle.families.proofs.FamilyFacts.{has-arm, object-allowed, floor-positive}
 use Rattle.families.proofs.Dispatch.{object, object-n, object-k, n-within}
 use Rattle.families.proofs.kinds.next.Statement.{statement}
 use Rattle.families.proofs.kinds.next.Tie as tie
@@ -80,7 +80,7 @@ next-requires-5 : tie.Need-next-requires-5
 unfolding table integerPartitionRow
 next-requires-5 c κs =
     let t = object-k 5 _ _ _ (c .before .match .keys5) (c .before .before .before .pre) refl in
-    ((n-within _ _ _ (t .bounds), omega arith), sym (t .objects _) ∙ c .before .before .before .pre)
+    ((n-within _ _ _ (t .bounds), floor-positive _ _ (object-allowed _ _ _ (c .before .before .before .pre)) (c .before .match .keys5)), sym (t .objects _) ∙ c .before .before .before .pre)
 
 same-length-5 : tie.Need-same-length-5
 same-length-5 c = search needs

@@ -7,7 +7,7 @@ use denote.Ref.{now}
 use borrow.Author.Needs.{needs}
 use Rattle.families.specs.Table.{subsetRow, anagramRow, permutationRow, setPartitionRow, integerPartitionRow, dyckWordRow, table}
 use Rattle.families.specs.Families.{rankOf}
-use Rattle.families.proofs.FamilyFacts.{has-arm, object-allowed}
+use Rattle.families.proofs.FamilyFacts.{has-arm, object-allowed, floor-positive}
 use Rattle.families.proofs.Dispatch.{object, object-n, object-k, n-within, letters-fit}
 use Rattle.families.proofs.kinds.rank.Statement.{statement}
 use Rattle.families.proofs.kinds.rank.Tie as tie
@@ -77,7 +77,7 @@ rank-requires-5 : tie.Need-rank-requires-5
 unfolding table integerPartitionRow
 rank-requires-5 c κs =
     let t = object-k 5 _ _ _ (c .match .keys5) (c .before .before .before .pre .0) refl in
-    ((n-within _ _ _ (t .bounds), omega arith), sym (t .objects _) ∙ c .before .before .before .pre .0)
+    ((n-within _ _ _ (t .bounds), floor-positive _ _ (object-allowed _ _ _ (c .before .before .before .pre .0)) (c .match .keys5)), sym (t .objects _) ∙ c .before .before .before .pre .0)
 
 returns-5 : tie.Need-returns-5
 unfolding table integerPartitionRow rankOf

@@ -5,9 +5,8 @@ use native.Mathlib.Omega.{arith}
 use lib.ListN.{List·getD-map}
 use denote.Ref.{now}
 use borrow.Author.Needs.{needs}
-use Rattle.numbers.specs.Numbers.{partitionsOf}
 use Rattle.families.specs.Table.{subsetRow, anagramRow, permutationRow, setPartitionRow, integerPartitionRow, dyckWordRow, table}
-use Rattle.families.proofs.FamilyFacts.{has-arm}
+use Rattle.families.proofs.FamilyFacts.{has-arm, floor-positive}
 use Rattle.families.proofs.Dispatch.{handed, long-n, long-k, n-within, letters-fit}
 use Rattle.families.proofs.kinds.unrank.Statement.{statement}
 use Rattle.families.proofs.kinds.unrank.Tie as tie
@@ -86,10 +85,10 @@ returns-4 c =
 -- kind 5
 
 unrank-requires-5 : tie.Need-unrank-requires-5
-unfolding table integerPartitionRow partitionsOf
+unfolding table integerPartitionRow
 unrank-requires-5 c κs =
     let t = long-k 5 _ _ (c .before .before .before .before .args .object .now) (c .before .match .keys5) (c .before .before .before .before .pre .0) (c .before .before .before .before .pre .1 .1 .0) refl in
-    ((n-within _ _ _ (t .bounds), (omega arith, t .short)), rw (t .counted) at (c .before .before .before .before .pre .1 .1 .1))
+    ((n-within _ _ _ (t .bounds), (floor-positive _ _ (c .before .before .before .before .pre .0) (c .before .match .keys5), t .short)), rw (t .counted) at (c .before .before .before .before .pre .1 .1 .1))
 
 same-length-5 : tie.Need-same-length-5
 same-length-5 c = search needs

@@ -22,16 +22,36 @@ returns-2 : tie.Need-returns-2
 unfolding askedOfAll
 returns-2 c = sym (past _ _ (is-yes (c .before .before .before .is-kind .ensures) (c .before .before .if1 .left)) ∙ stop _ _ (is-no (c .before .in-table .ensures) (c .if2 .taken)))
 
-lists-fit-requires : tie.Need-lists-fit-requires
-lists-fit-requires c κs = search needs
+floor-fits-requires : tie.Need-floor-fits-requires
+floor-fits-requires c κs = search needs
 
 returns-3 : tie.Need-returns-3
 unfolding askedOfAll
-returns-3 c = sym (past _ _ (is-yes (c .before .before .before .before .before .is-kind .ensures) (c .before .before .before .before .if1 .left)) ∙ past _ _ (is-yes (c .before .before .before .in-table .ensures) (c .before .before .if2 .left)) ∙ stop _ _ (is-no (c .before .lists-fit .ensures) (c .if3 .taken)))
+returns-3 c = sym (past _ _ (is-yes (c .before .before .before .before .before .is-kind .ensures) (c .before .before .before .before .if1 .left)) ∙ past _ _ (is-yes (c .before .before .before .in-table .ensures) (c .before .before .if2 .left)) ∙ stop _ _ (is-no (c .before .floor-fits .ensures) (c .if3 .taken)))
+
+lists-fit-requires : tie.Need-lists-fit-requires
+lists-fit-requires c κs = search needs
+
+-- where the lists are asked about, three questions have passed
 
 returns-4 : tie.Need-returns-4
 unfolding askedOfAll
-returns-4 c = sym (past _ _ (is-yes (c .before .before .before .before .before .is-kind .ensures) (c .before .before .before .before .if1 .left)) ∙ past _ _ (is-yes (c .before .before .before .in-table .ensures) (c .before .before .if2 .left)) ∙ past _ _ (is-yes (c .before .lists-fit .ensures) (c .if3 .left)) ∙ none-left)
+returns-4 c =
+    sym
+    (past _ _ (is-yes (c .before .before .before .before .before .before .before .is-kind .ensures) (c .before .before .before .before .before .before .if1 .left))
+    ∙ past _ _ (is-yes (c .before .before .before .before .before .in-table .ensures) (c .before .before .before .before .if2 .left))
+    ∙ past _ _ (is-yes (c .before .before .before .floor-fits .ensures) (c .before .before .if3 .left))
+    ∙ stop _ _ (is-no (c .before .lists-fit .ensures) (c .if4 .taken)))
+
+returns-5 : tie.Need-returns-5
+unfolding askedOfAll
+returns-5 c =
+    sym
+    (past _ _ (is-yes (c .before .before .before .before .before .before .before .is-kind .ensures) (c .before .before .before .before .before .before .if1 .left))
+    ∙ past _ _ (is-yes (c .before .before .before .before .before .in-table .ensures) (c .before .before .before .before .if2 .left))
+    ∙ past _ _ (is-yes (c .before .before .before .floor-fits .ensures) (c .before .before .if3 .left))
+    ∙ past _ _ (is-yes (c .before .lists-fit .ensures) (c .if4 .left))
+    ∙ none-left)
 
 pub asked-of-all-spec : {M : Type 1} → statement M
 asked-of-all-spec =
@@ -41,6 +61,8 @@ asked-of-all-spec =
     returns
     in-table-requires
     returns-2
-    lists-fit-requires
+    floor-fits-requires
     returns-3
-    returns-4)
+    lists-fit-requires
+    returns-4
+    returns-5)

@@ -1,4 +1,4 @@
--- `families::questions::some_object` meets its contract. The table says by kind, n and k whether there is an object.
+-- `families::questions::some_object` meets its contract. The table says whether there is an object, by the numbers of the family.
 -- Assumes nothing.
 use mathlib.Core.Path.{sym, _∙_}
 use borrow.Author.Needs.{needs}

@@ -4,9 +4,9 @@ use mathlib.Core.List.{map}
 use lib.ListN.{List·getD-map}
 use denote.Ref.{now}
 use borrow.Author.Needs.{needs}
-use Rattle.listings.proofs.Bools.{and-true}
+use Rattle.listings.proofs.Bools.{and-true, and-makes}
 use Rattle.families.specs.Table.{lent, subsetRow, anagramRow, permutationRow, setPartitionRow, integerPartitionRow, dyckWordRow, table}
-use Rattle.families.proofs.FamilyFacts.{has-arm}
+use Rattle.families.proofs.FamilyFacts.{has-arm, floor-within}
 use Rattle.families.proofs.Dispatch.{handed, sum-fits}
 use Rattle.families.proofs.CountAnswers.{answer-within}
 use Rattle.families.proofs.table.count.Statement.{statement}
@@ -61,7 +61,7 @@ returns-5 : tie.Need-returns-5
 unfolding table integerPartitionRow
 returns-5 c =
     let t = handed 5 (c .before .before .before .args .f) (lent (map now (c .before .before .before .args .t2))) (c .before .match .keys5) (c .before .before .before .pre) in
-    answer-within (c .partitions .ensures) (t .bounds) (t .counted)
+    answer-within (c .partitions .ensures) (and-makes (floor-within _ _ (c .before .before .before .pre) (c .before .match .keys5)) (t .bounds)) (t .counted)
 
 returns-6 : tie.Need-returns-6
 unfolding table dyckWordRow

@@ -1,4 +1,4 @@
--- `integer_partitions::search::at_least` meets its contract: the count with the floor shifted down to 1.
+-- `partition_numbers::at_least` meets its contract: the count with the floor shifted down to 1.
 -- Assumes nothing.
 use mathlib.Core.Path.{_≡_, sym, _∙_}
 use Prim.Native.Nat.{ℕ, suc, _*_, _-_, _≤_, _<_}
@@ -8,8 +8,8 @@ use borrow.Author.Needs.{needs}
 use Rattle.numbers.specs.Limits.{places}
 use Rattle.numbers.specs.Numbers.{partsFrom, partitionsOf}
 use Rattle.numbers.proofs.Laws.{floor-shift, too-few}
-use Rattle.integer_partitions.proofs.search.at_least.Statement.{statement}
-use Rattle.integer_partitions.proofs.search.at_least.Tie as tie
+use Rattle.partition_numbers.proofs.at_least.Statement.{statement}
+use Rattle.partition_numbers.proofs.at_least.Tie as tie
 
 sub-off : tie.Need-sub-off
 sub-off c = search needs
@@ -17,14 +17,14 @@ sub-off c = search needs
 mul-off : tie.Need-mul-off
 mul-off c =
     let most : c .args .k ≤ places = omega arith in
-    let byte : c .args .p - 1 ≤ 256 = omega arith in
+    let byte : c .args .floor - 1 ≤ 256 = omega arith in
     omega (arith, mul-le-mul most byte)
 
 returns : tie.Need-returns
 returns c =
     let a = c .before .args in
-    let less : a .p - 1 ≤ a .p = omega arith in
-    sym (too-few (a .p) (a .n) (a .k) (omega (arith, mul-le-mul-left (a .k) less)))
+    let less : a .floor - 1 ≤ a .floor = omega arith in
+    sym (too-few (a .floor) (a .n) (a .k) (omega (arith, mul-le-mul-left (a .k) less)))
 
 partitions-requires : tie.Need-partitions-requires
 partitions-requires c κs = search needs
@@ -34,7 +34,7 @@ at-least-one : (p n k : ℕ) → 0 < p → k * (p - 1) ≤ n → partitionsOf (n
 at-least-one p n k pos h = let back : suc (p - 1) ≡ p = omega arith in rw (← floor-shift (p - 1) n k h, back)
 
 returns-2 : tie.Need-returns-2
-returns-2 c = let a = c .before .before .args in c .partitions .ensures ∙ at-least-one (a .p) (a .n) (a .k) (omega arith) (omega arith)
+returns-2 c = let a = c .before .before .args in c .partitions .ensures ∙ at-least-one (a .floor) (a .n) (a .k) (omega arith) (omega arith)
 
 pub at-least-spec : {M : Type 1} → statement M
 at-least-spec = tie.close (tie.spec sub-off mul-off returns partitions-requires returns-2)
