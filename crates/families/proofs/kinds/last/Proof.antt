@@ -1,7 +1,6 @@
 -- `families::kinds::last` meets its contract: each kind is handed what it asks, and its listing is the family's.
 -- Assumes nothing.
 use mathlib.Core.Path.{refl, _∙_}
-use native.Mathlib.Omega.{arith}
 use lib.ListN.{length, List·getD-map}
 use denote.Ref.{now}
 use borrow.Author.Needs.{needs}

@@ -1,7 +1,6 @@
 -- `families::kinds::next` meets its contract: each kind is handed what it asks, and its order and listing are the family's.
 -- Assumes nothing.
 use mathlib.Core.Path.{refl, sym, _∙_}
-use native.Mathlib.Omega.{arith}
 use lib.ListN.{length}
 use denote.Ref.{now}
 use borrow.Author.Needs.{needs}

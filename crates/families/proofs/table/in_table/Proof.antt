@@ -1,6 +1,5 @@
 -- `families::table::in_table` meets its contract: the bounds of every row are two limits by the kind's number.
 -- Assumes nothing.
-use mathlib.Core.Path.{sym, _∙_}
 use borrow.Author.Needs.{needs}
 use borrow.Author.Tests.{le-leb, lt-leb}
 use Rattle.families.proofs.Dispatch.{two-limits}
