@@ -66,7 +66,7 @@ pub fn in_table<'a>(f: Family, lists: Lists<'a>) -> bool
     f.n <= most_n(f.kind) && f.k <= most_k(f.kind)
 }
 
-// Question 10.
+// Question 10. Floor 1, which nearly every family has, is tested first.
 pub fn floor_fits(f: Family) -> bool
     ensures { λ r. ⌜ r ≡ floorFits f ⌝ }
 {
