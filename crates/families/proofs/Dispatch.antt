@@ -1,7 +1,7 @@
 -- What a call knows when it hands a family to its kind: the family's listing, order, objects and count as the kind's row says them.
 -- Assumes nothing.
 use mathlib.Core.Path.{_≡_, refl, sym, _∙_, subst}
-use mathlib.Core.Bool.{Bool, true, cond, _&&_, _||_}
+use mathlib.Core.Bool.{Bool, true, _&&_, _||_}
 use mathlib.Core.Logic.{⊎-elim}
 use Prim.Native.Nat.{ℕ, zero, suc, _*_, _≤_, _<_, min}
 use native.Mathlib.Nat.{zero-mul, suc-mul, min-eq-left, min-eq-right}
@@ -10,7 +10,7 @@ use native.Mathlib.Decide.{decLe}
 use lib.Dec.{leb, ltb, eqb}
 use lib.ListN.{length, getD}
 use borrow.Author.Tests.{leb-true, ltb-true, eqb-true, ne-eqb, lt-ltb, lt-leb}
-use Rattle.numbers.specs.Limits.{places, branches, longestObject}
+use Rattle.numbers.specs.Limits.{places, longestObject}
 use Rattle.numbers.specs.Sums.{total}
 use Rattle.listings.specs.Bytes.{Bytes}
 use Rattle.listings.specs.Rows.{Row}
@@ -18,6 +18,7 @@ use Rattle.listings.proofs.Bools.{and-true, or-cases}
 use Rattle.families.specs.declared.Family.{Family}
 use Rattle.families.specs.Table.{Lent, subsetRow, anagramRow, permutationRow, setPartitionRow, integerPartitionRow, dyckWordRow, noRow, table, lastKind}
 use Rattle.families.specs.Families.{row, isKind, inTable, allowed, objectLength, isObject, comesBefore, listing, countOf}
+use Rattle.families.specs.inner.Bounds.{mostN, mostK}
 use Rattle.families.proofs.FamilyFacts.{lawful, object-allowed, bounded, fitting, count-is, has-object, short}
 
 -- the family's facts as a row says them
@@ -103,7 +104,7 @@ zero-most : (k : ℕ) → eqb k 0 ≡ leb k 0
 zero-most zero = refl
 zero-most (suc k) = rw (ne-eqb (suc k) 0 (λ e. omega arith), lt-leb (suc k) 0 (omega arith))
 
-bounds-at : (kind : ℕ) (f : Family) (b : Lent) → 1 ≤ kind → kind ≤ lastKind → rowAt kind f b .inBounds ≡ (leb (f .n) (cond (eqb kind 6) branches places) && leb (f .k) (cond (eqb kind 1 || eqb kind 4 || eqb kind 5) places 0))
+bounds-at : (kind : ℕ) (f : Family) (b : Lent) → 1 ≤ kind → kind ≤ lastKind → rowAt kind f b .inBounds ≡ (leb (f .n) (mostN kind) && leb (f .k) (mostK kind))
 unfolding table subsetRow anagramRow permutationRow setPartitionRow integerPartitionRow dyckWordRow
 bounds-at zero f b low high = absurd (omega arith)
 bounds-at (suc zero) f b low high = refl
@@ -114,7 +115,7 @@ bounds-at (suc (suc (suc (suc (suc zero))))) f b low high = refl
 bounds-at (suc (suc (suc (suc (suc (suc zero)))))) f b low high = rw (zero-most (f .k))
 bounds-at (suc (suc (suc (suc (suc (suc (suc kind))))))) f b low high = absurd (omega arith)
 
-pub two-limits : (f : Family) (b : Lent) → isKind f ≡ true → inTable f b ≡ (leb (f .n) (cond (eqb (f .kind) 6) branches places) && leb (f .k) (cond (eqb (f .kind) 1 || eqb (f .kind) 4 || eqb (f .kind) 5) places 0))
+pub two-limits : (f : Family) (b : Lent) → isKind f ≡ true → inTable f b ≡ (leb (f .n) (mostN (f .kind)) && leb (f .k) (mostK (f .kind)))
 unfolding isKind inTable row
 two-limits f b e =
     let p = and-true (leb 1 (f .kind)) (leb (f .kind) lastKind) e in

@@ -1,10 +1,10 @@
 // The table of families in code: bounds, lists, lengths and counts, by kind.
 ghost use mathlib.Core.Path.{_≡_};
-ghost use mathlib.Core.Bool.{true, cond, _&&_, _||_};
+ghost use mathlib.Core.Bool.{true, _&&_, _||_};
 ghost use mathlib.Core.List.{map};
 ghost use Prim.Native.Nat.{ℕ, _+_, min};
 ghost use lib.Dec.{leb, ltb, eqb};
-ghost use Rattle.numbers.specs.Limits.{places, branches};
+ghost use Rattle.numbers.specs.Limits.{places};
 ghost use Rattle.numbers.specs.Sums.{total};
 ghost use Rattle.numbers.specs.Numbers.{stirlingOf};
 ghost use Rattle.counting.specs.Answers.{fits as fitsOf};
@@ -12,6 +12,7 @@ ghost use Rattle.families.specs.Table.{lent};
 ghost use Rattle.families.specs.Families.{row, isKind, inTable, floorFits, listsFit, allowed, objectLength, countOf};
 ghost use Rattle.families.specs.Questions.{rankRefusal};
 ghost use Rattle.families.specs.inner.Sizes.{sizeAs};
+ghost use Rattle.families.specs.inner.Bounds.{mostN, mostK};
 use crate::Family;
 use crate::Lists;
 use counting::Count;
@@ -38,7 +39,7 @@ pub fn is_kind(f: Family) -> bool
 
 // The largest n of a kind.
 fn most_n(kind: u64) -> u64
-    ensures { λ r. ⌜ r ≡ cond (eqb kind 6) branches places ⌝ }
+    ensures { λ r. ⌜ r ≡ mostN kind ⌝ }
 {
     if kind == 6 {
         return BRANCHES;
@@ -48,7 +49,7 @@ fn most_n(kind: u64) -> u64
 
 // The largest k of a kind: 0 where it has none.
 fn most_k(kind: u64) -> u64
-    ensures { λ r. ⌜ r ≡ cond (eqb kind 1 || eqb kind 4 || eqb kind 5) places 0 ⌝ }
+    ensures { λ r. ⌜ r ≡ mostK kind ⌝ }
 {
     match kind {
         1 => PLACES,
