@@ -2,18 +2,19 @@
 -- Assumes nothing.
 use mathlib.Core.Path.{_≡_, refl, sym, _∙_, ap}
 use mathlib.Core.Bool.{true}
-use mathlib.Core.List.{List, [], _∷_, map, append-nil}
+use mathlib.Core.List.{List, [], _∷_, map}
 use Prim.Native.Nat.{ℕ, zero, suc, _+_, _-_, _*_, _/_, _%_, _≤_, _<_}
 use native.Mathlib.Nat.{sub-self, zero-add, add-assoc, zero-mul, suc-mul, mul-comm, mul-assoc, add-mul, mul-div-cancel, mod-lt, div-add-mod'}
 use native.Mathlib.Numerals.{add-one}
 use native.Mathlib.Omega.{arith}
-use lib.ListN.{length, take, drop, getD, set, length-set, length-drop, length-map, drop-of-length-le, getD-replicate}
-use lib.Seq.{take-all, drop-length, drop-at, set-split, length-take-le}
+use lib.ListN.{length, take, drop, getD, set, length-set, length-map, length-replicate, getD-replicate}
+use lib.Seq.{drop-length, drop-at, length-take-le}
 use borrow.Rule.Slice.PartMut.{midOf, putMid, same-len-mid}
 use Rattle.numbers.specs.Limits.{places}
-use Rattle.numbers.specs.Sums.{total}
+use Rattle.basics.specs.Sums.{total}
+use Rattle.basics.proofs.Lists.{drop-set, lent-rest, put-rest, take-replicate}
 use Rattle.numbers.specs.Numbers.{factorialOf, multinomialOf, oneLess}
-use Rattle.numbers.proofs.Laws.{total-less, total-ones, multinomial-ones, factorial-rule}
+use Rattle.numbers.proofs.Laws.{total-less, total-ones, multinomial-ones, factorial-rule, left-inside, length-one-less}
 use Rattle.listings.specs.Bytes.{Bytes}
 use Rattle.listings.specs.Places.{At}
 use Rattle.listings.proofs.PlaceRules.{at-map, at-member}
@@ -21,11 +22,9 @@ use Rattle.anagrams.specs.Objects.{isAnagram}
 use Rattle.anagrams.specs.Listing.{words, anagrams}
 use Rattle.anagrams.specs.Permutations.{ones, permutations}
 use Rattle.anagrams.proofs.Facts.{first-off}
-use Rattle.anagrams.proofs.Ones.{take-ones, length-ones}
-use Rattle.anagrams.proofs.PermutationTheorem.{permutations-listed}
+use Rattle.anagrams.proofs.Theorem.{lists}
 use Rattle.anagram_ranks.specs.inner.Raised.{raised}
-use Rattle.anagram_ranks.proofs.Turns.{left-inside, length-one-less}
-use Rattle.anagram_ranks.proofs.Placing.{place-letter}
+use Rattle.anagram_ranks.proofs.Ranks.{place-letter}
 use Rattle.anagram_ranks.proofs.Raising.{putZero, words-put}
 
 -- a letter in front of a permutation of the others
@@ -47,7 +46,7 @@ put-listed m i h =
 
 share-ones : (m i : ℕ) → i ≤ m → multinomialOf (ones (suc m)) * total (take i (ones (suc m))) / total (ones (suc m)) ≡ i * factorialOf m
 share-ones m i h =
-    rw (multinomial-ones (suc m), take-ones (suc m) i (omega arith), total-ones i, total-ones (suc m), factorial-rule, mul-comm (suc m), mul-comm (factorialOf m * suc m), ← mul-assoc)
+    rw (multinomial-ones (suc m), take-replicate {A = ℕ} (suc m) i 1 (omega arith), total-ones i, total-ones (suc m), factorial-rule, mul-comm (suc m), mul-comm (factorialOf m * suc m), ← mul-assoc)
     (mul-div-cancel (i * factorialOf m) {n = suc m} (omega arith))
 
 pub put-in-front : (m i r : ℕ) (x : Bytes) → i ≤ m → At (permutations m) x r → At (permutations (suc m)) (suc i ∷ map (raised (suc i)) x) (i * factorialOf m + r)
@@ -65,7 +64,7 @@ within cs (a ∷ x) (suc k) o =
     omega (arith, within (oneLess cs i) x k rest, length-one-less cs i)
 
 permutation-within : (m r : ℕ) (x : Bytes) → At (permutations m) x r → (k : ℕ) → getD x k 0 ≤ m
-permutation-within m r x h k = omega (arith, within (ones m) x k (permutations-listed m .only x (at-member (permutations m) r h)), length-ones m)
+permutation-within m r x h k = omega (arith, within (ones m) x k (lists (ones m) .only x (at-member (permutations m) r h)), length-replicate {A = ℕ} m 1)
 
 -- the permutation of a rank, of which the letters from place i on are written, as a permutation of their own: the other digits are in rest
 
@@ -79,20 +78,14 @@ pub written-none : (rank : ℕ) (x : Bytes) → Written rank x rank (length x)
 unfolding anagrams words factorialOf total
 written-none rank x = record { inside = omega arith; place = 0; here = rw (sub-self, drop-length); sum = rw sub-self (omega arith) }
 
--- the part that is lent is all from i on
-rest-lent : (x : Bytes) (i : ℕ) → midOf i (length x - i) x ≡ drop i x
-rest-lent x i = take-all (length x - i) (drop i x) (omega (arith, length-drop i x))
-
 pub letters-small : {rank : ℕ} {x : Bytes} {rest i : ℕ} → length x ≤ places → Written rank x rest i → (k : ℕ) → getD (midOf i (length x - i) x) k 0 < 255
-letters-small {x} {i} h w k = rw (rest-lent x i) (omega (arith, permutation-within (length x - i) (w .place) (drop i x) (w .here) k))
+letters-small {x} {i} h w k = rw (lent-rest i x) (omega (arith, permutation-within (length x - i) (w .place) (drop i x) (w .here) k))
 
 -- the letter a is stored in front of the part ys that is back
 stored : (x ys : Bytes) (i a : ℕ) → 0 < i → i ≤ length x → length (putMid i (length x - i) x ys) ≡ length x → drop (i - 1) (set (putMid i (length x - i) x ys) (i - 1) a) ≡ a ∷ ys
 stored x ys i a some inside long =
     let e : suc (i - 1) ≡ i = omega arith in
-    let l = putMid i (length x - i) x ys in
-    rw (set-split l (i - 1) a (omega arith), drop-at (take (i - 1) l) (a ∷ drop (suc (i - 1)) l) (i - 1) (length-take-le (i - 1) l (omega arith)), e)
-    (ap (λ (z : List ℕ). a ∷ z) (drop-at (take i x) _ i (length-take-le i x inside) ∙ rw (drop-of-length-le (drop i x) {i = length x - i} (omega (arith, length-drop i x)), append-nil)))
+    rw (drop-set (putMid i (length x - i) x ys) (i - 1) a (omega arith), e, put-rest i x ys, drop-at (take i x) ys i (length-take-le i x inside))
 
 digits : (rest m f r : ℕ) → rest * f + r ≡ rest / m * (m * f) + (rest % m * f + r)
 digits rest m f r = ap (λ k. k * f + r) (sym (div-add-mod' rest m)) ∙ rw (add-mul, mul-assoc, add-assoc)
@@ -110,7 +103,7 @@ written-more {rank} {x} {rest} {i} m a ys some e d made w =
       record {
         inside = omega (arith, long, w .inside);
         place = rest % m * factorialOf (length x - i) + w .place;
-        here = rw (size, stored x ys i a some (w .inside) kept, made, rest-lent x i, letter) (put-in-front (length x - i) (rest % m) (w .place) (drop i x) (omega arith) (w .here));
+        here = rw (size, stored x ys i a some (w .inside) kept, made, lent-rest i x, letter) (put-in-front (length x - i) (rest % m) (w .place) (drop i x) (omega arith) (w .here));
         sum = rw (size, factorial-rule, is) (w .sum ∙ digits rest m (factorialOf (length x - i)) (w .place));
       },
     )

@@ -1,25 +1,44 @@
 -- A word is found or written letter after letter: what stands where among the words of the letters left, stands with the front before it
 -- as many places on as words come before all that start so. Assumes nothing.
-use mathlib.Core.Path.{_≡_, refl, _∙_, subst}
+use mathlib.Core.Path.{_≡_, refl, sym, _∙_, subst}
+use mathlib.Core.Bool.{true}
 use mathlib.Core.List.{List, [], _∷_, _++_, append-nil}
 use Prim.Native.Nat.{ℕ, suc, _+_, _-_, _*_, _/_, _≤_, _<_}
 use native.Mathlib.Nat.{pos-of-ne-zero, sub-self, zero-add, add-zero, add-assoc}
 use native.Mathlib.Numerals.{add-one}
 use native.Mathlib.Omega.{arith}
-use lib.ListN.{length, take, getD, set, length-set}
+use lib.ListN.{length, take, drop, getD, set, length-set, length-drop}
 use lib.Seq.{append-snoc, take-suc, take-suc-set, take-all}
-use Rattle.numbers.specs.Sums.{total}
+use Rattle.basics.specs.Sums.{total}
+use Rattle.basics.proofs.Totals.{total-take-more}
 use Rattle.numbers.specs.Numbers.{multinomialOf, oneLess}
-use Rattle.numbers.proofs.Laws.{multinomial-positive, total-less}
+use Rattle.numbers.proofs.Laws.{multinomial-positive, total-less, one-empty, length-one-less, left-inside}
 use Rattle.listings.specs.Bytes.{Bytes}
 use Rattle.listings.specs.Places.{At}
 use Rattle.listings.proofs.PlaceRules.{at-below, at-exists}
 use Rattle.anagrams.specs.Listing.{words, anagrams}
-use Rattle.anagrams.proofs.Theorem.{counted, one-empty}
-use Rattle.anagram_ranks.proofs.Turns.{length-one-less}
-use Rattle.anagram_ranks.proofs.Placing.{place-letter, share-more}
-use Rattle.anagram_ranks.proofs.Shares.{total-take-more}
+use Rattle.anagrams.specs.Objects.{isAnagram}
+use Rattle.anagrams.proofs.Theorem.{counted, long}
+use Rattle.anagrams.proofs.Testing.{letter-spent, letter-there}
+use Rattle.anagram_ranks.proofs.Ranks.{place-letter, share-more}
 
+-- what a word of the letters left tells of the letter at place i
+pub record Turn (cs : List ℕ) (x : Bytes) (i : ℕ) : Type 0 where
+  pub some : 0 < getD x i 0
+  pub inside : getD x i 0 - 1 < length cs
+  pub left : 0 < getD cs (getD x i 0 - 1) 0
+  pub size : total cs ≡ length x - i
+  pub rest : isAnagram (oneLess cs (getD x i 0 - 1)) (drop (i + 1) x) ≡ true
+
+pub size-left : (cs : List ℕ) (x : Bytes) (i : ℕ) → isAnagram cs (drop i x) ≡ true → total cs ≡ length x - i
+size-left cs x i o = sym (long cs (drop i x) o) ∙ length-drop i x
+
+pub turn : (cs : List ℕ) (x : Bytes) (i : ℕ) → i < length x → isAnagram cs (drop i x) ≡ true → Turn cs x i
+turn cs x i h o =
+    let (s, l) = letter-there cs x i h o in
+    record { some = s; inside = left-inside cs _ l; left = l; size = size-left cs x i o; rest = sym (letter-spent cs x i h s l) ∙ o }
+
+-- the words that start with a front are those of the letters left, as many places on as words come before them
 pub record Front (all : List ℕ) (front : Bytes) (n : ℕ) (left : List ℕ) : Type 0 where
   pub kept : length left ≡ length all
   pub moves : (y : Bytes) (r : ℕ) → At (anagrams left) y r → At (anagrams all) (front ++ y) (n + r)
@@ -71,9 +90,9 @@ write-start all x {rank} e l h =
 
 -- letter a, whose words the rank falls into
 module _ {all left : List ℕ} {x : Bytes} {rank words rest i : ℕ} (so : Written all rank left x words rest i) (a : ℕ) {m : ℕ} (t : total left ≡ m)
-    (low : words * total (take a left) / m ≤ rest) (high : rest < words * total (take (a + 1) left) / m) where
+    (there : a < length left) (low : words * total (take a left) / m ≤ rest) (high : rest < words * total (take (a + 1) left) / m) where
   pub picked : 0 < getD left a 0
-  picked = pos-of-ne-zero (λ z. omega (arith, rw (total-take-more left a, z, add-zero) at high))
+  picked = pos-of-ne-zero (λ z. omega (arith, rw (total-take-more left a there, z, add-zero) at high))
 
   fits : rest < words * total (take a left) / m + multinomialOf (oneLess left a)
   fits = rw (so .count, ← t) (rw (so .count, ← t, share-more left a picked) at high)

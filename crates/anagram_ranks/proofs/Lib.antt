@@ -1,7 +1,5 @@
 -- Where a word stands in the listing by its letters, and the digits of a permutation's rank.
-pub mod Shares
-pub mod Turns
-pub mod Placing
+pub mod Ranks
 pub mod Fronts
 pub mod Raising
 pub mod FactorialDigits

@@ -1,16 +1,17 @@
 -- Letters raised from one on, by which it becomes free: where it has no count, the words are those of the other letters, raised.
 -- Assumes nothing.
-use mathlib.Core.Path.{_≡_, refl, ap}
-use mathlib.Core.List.{List, [], _∷_, _++_, map, flatMap, map-append, append-nil}
+use mathlib.Core.Path.{_≡_, refl, sym, _∙_, ap}
+use mathlib.Core.List.{List, [], _∷_, map, flatMap, map-append, map-map}
 use Prim.Native.Nat.{ℕ, zero, suc, _+_, _≤_, _<_}
 use native.Mathlib.Nat.{add-zero, suc-add}
 use native.Mathlib.Numerals.{add-one}
 use native.Mathlib.Omega.{arith}
 use lib.Dec.{leb·suc-suc}
-use lib.ListN.{length, take, drop, getD, set, drop-of-length-le}
-use lib.Seq.{take-all}
+use lib.ListN.{length, getD}
 use borrow.Author.Tests.{le-leb, lt-leb}
+use Rattle.basics.specs.Sums.{range}
 use Rattle.numbers.specs.Numbers.{oneLess, lettersFrom}
+use Rattle.listings.proofs.Fills.{reading}
 use Rattle.anagrams.specs.Listing.{words}
 use Rattle.anagram_ranks.specs.inner.Raised.{raised}
 
@@ -54,16 +55,11 @@ letters-put (suc i) a k [] e = refl
 letters-put (suc i) a k (zero ∷ cs) e = letters-put i a (suc k) cs (omega arith)
 letters-put (suc i) a k (suc c ∷ cs) e = rw (raised-not a k (omega arith), letters-put i a (suc k) cs (omega arith))
 
--- a map past choices, and past another map
-
+-- a map past choices
 map-choices : {A B : Type 0} (f : ℕ → ℕ) (s : A → B) (g : ℕ → List B) (h : ℕ → List A) → ((i : ℕ) → g (f i) ≡ map s (h i)) → (l : List ℕ) → flatMap g (map f l) ≡ map s (flatMap h l)
 unfolding flatMap
 map-choices f s g h e [] = refl
 map-choices f s g h e (i ∷ l) = rw (e i, map-choices f s g h e l, map-append)
-
-map-past : {A B : Type 0} (p : B → B) (q : A → B) (r : A → B) (s : A → A) → ((x : A) → r (s x) ≡ p (q x)) → (l : List A) → map r (map s l) ≡ map p (map q l)
-map-past p q r s e [] = refl
-map-past p q r s e (x ∷ l) = rw (e x, map-past p q r s e l)
 
 -- so the words are those of the other letters, raised
 pub words-put : (t i : ℕ) (cs : List ℕ) → words t (putZero i cs) ≡ map (map (raised (suc i))) (words t cs)
@@ -72,31 +68,9 @@ words-put zero i cs = refl
 words-put (suc t) i cs =
     rw (letters-put i i 0 cs (omega arith))
     (map-choices (raised i) (map (raised (suc i))) _ _
-    (λ j. rw (one-less-put i cs j, words-put t i (oneLess cs j)) (map-past _ _ _ _ (λ x. rw (raised-suc i j)) (words t (oneLess cs j))))
+    (λ j. rw (one-less-put i cs j, words-put t i (oneLess cs j), map-map, map-map) (ap (λ b. map (λ x. b ∷ map (raised (suc i)) x) (words t (oneLess cs j))) (sym (raised-suc i j))))
     (lettersFrom 0 cs))
 
--- a loop that raises one letter a turn: the first i are raised, the others as they were
-
-abbrev pub mapped : (ℕ → ℕ) → ℕ → List ℕ → List ℕ
-mapped f i d = map f (take i d) ++ drop i d
-
-pub mapped-next : (f : ℕ → ℕ) (i : ℕ) (d : List ℕ) → getD (mapped f i d) i 0 ≡ getD d i 0
-mapped-next f zero d = refl
-mapped-next f (suc i) [] = refl
-mapped-next f (suc i) (x ∷ d) = mapped-next f i d
-
-store : (f : ℕ → ℕ) (i : ℕ) (d : List ℕ) → i < length d → set (mapped f i d) i (f (getD d i 0)) ≡ mapped f (suc i) d
-store f i [] h = absurd (omega arith)
-store f zero (x ∷ d) h = refl
-store f (suc i) (x ∷ d) h = ap (λ (l : List ℕ). f x ∷ l) (store f i d (omega arith))
-
-pub mapped-more : (f : ℕ → ℕ) (i : ℕ) (d : List ℕ) → i < length d → set (mapped f i d) i (f (getD d i 0)) ≡ mapped f (i + 1) d
-mapped-more f i d h = rw add-one (store f i d h)
-
-pub length-mapped : (f : ℕ → ℕ) (i : ℕ) (d : List ℕ) → length (mapped f i d) ≡ length d
-length-mapped f zero d = refl
-length-mapped f (suc i) [] = refl
-length-mapped f (suc i) (x ∷ d) = ap suc (length-mapped f i d)
-
-pub mapped-all : (f : ℕ → ℕ) (i : ℕ) (d : List ℕ) → length d ≤ i → mapped f i d ≡ map f d
-mapped-all f i d h = rw (take-all i d h, drop-of-length-le d {i = i} h, append-nil)
+-- raised place after place
+pub raised-all : (a : ℕ) (x : List ℕ) → map (λ i. raised a (getD x i 0)) (range 0 (length x)) ≡ map (raised a) x
+raised-all a x = sym (map-map (raised a) (λ i. getD x i 0) (range 0 (length x))) ∙ ap (map (raised a)) (reading x)

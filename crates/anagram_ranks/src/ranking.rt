@@ -5,19 +5,15 @@ ghost use mathlib.Core.Bool.{true};
 ghost use Prim.Native.Nat.{_+_, _*_, _/_, _≤_, _<_, _^_};
 ghost use lib.ListN.{length, take, getD};
 ghost use Rattle.numbers.specs.Limits.{places};
-ghost use Rattle.numbers.specs.Sums.{total};
+ghost use Rattle.basics.specs.Sums.{total};
 ghost use Rattle.numbers.specs.Numbers.{multinomialOf, oneLess};
 ghost use Rattle.listings.specs.Places.{At, countBefore};
 ghost use Rattle.anagrams.specs.Objects.{isAnagram, anagramBefore};
 ghost use Rattle.anagrams.specs.Listing.{anagrams};
+use basics::sum;
+use basics::wide;
 use counting::Count;
 use counting::multinomial;
-
-fn wide(b: u8) -> u64
-    ensures { λ r. ⌜ r ≡ b ⌝ }
-{
-    b as u64
-}
 
 // The number of words, where it fits.
 pub fn all_words(counts: &[u8]) -> u64
@@ -43,13 +39,7 @@ fn left_before(left: &[u8], a: usize) -> u64
     requires { ⌜ (a ≤ length (now left)) × (total (now left) ≤ places) ⌝ }
     ensures { λ r. ⌜ r ≡ total (take a (now (left .entry))) ⌝ }
 {
-    let mut s: u64 = 0;
-    let mut i = 0;
-    while i < a {
-        s += wide(left[i]);
-        i += 1;
-    }
-    s
+    sum(&left[..a])
 }
 
 // Of all words, how many start with a letter in front of letter a.

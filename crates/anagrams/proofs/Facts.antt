@@ -1,22 +1,23 @@
--- What the test of an anagram says, and that an anagram is a letter with a count left before an anagram of the counts without it.
--- Assumes nothing.
-use mathlib.Core.Path.{_≡_, refl, sym, _∙_}
+-- What the test of an anagram says: an anagram is a letter with a count left before an anagram of the counts without it, and a word with
+-- its letters in another order passes too. Assumes nothing.
+use mathlib.Core.Path.{_≡_, refl, sym, _∙_, ap}
 use mathlib.Core.Logic.{_⊎_, inl, inr, ⊎-elim}
-use mathlib.Core.Bool.{true}
-use mathlib.Core.List.{List, [], _∷_}
-use Prim.Native.Nat.{ℕ, zero, suc, _+_, _≤_, _<_}
+use mathlib.Core.Bool.{true, and-self}
+use mathlib.Core.List.{List, [], _∷_, List·Memᴰ, List·Memᴰ·head, List·Memᴰ·tail, List·Permᴰ, List·Permᴰ·nil, List·Permᴰ·cons, List·Permᴰ·swap, List·Permᴰ·trans}
+use Prim.Native.Nat.{ℕ, zero, suc, _+_, _-_, _≤_, _<_}
 use native.Mathlib.Nat.{zero-add, suc-add}
 use native.Mathlib.Numerals.{one-add}
 use native.Mathlib.Decide.{ℕ-discrete}
 use native.Mathlib.Omega.{arith}
 use lib.Dec.{eqb, eqb·zero-suc, eqb·suc-suc}
 use lib.ListN.{length, getD}
+use lib.Seq.{getD-set-other}
 use borrow.Author.Tests.{eqb-true, eq-eqb, ne-eqb}
-use Rattle.numbers.specs.Sums.{total}
+use Rattle.basics.specs.Sums.{total}
 use Rattle.numbers.specs.Numbers.{oneLess}
-use Rattle.numbers.proofs.Laws.{total-less}
+use Rattle.numbers.proofs.Laws.{total-less, one-less-set}
 use Rattle.listings.specs.Bytes.{Bytes}
-use Rattle.listings.proofs.Bools.{and-true, and-makes}
+use Rattle.basics.proofs.Bools.{and-true, and-makes}
 use Rattle.anagrams.specs.Objects.{occurrences, tallies, isAnagram}
 
 pub anagram-cases : (cs : List ℕ) (x : Bytes) → isAnagram cs x ≡ true → (length x ≡ total cs) × (tallies 1 cs x ≡ true)
@@ -88,6 +89,33 @@ first-off cs a x o =
     (λ k. absurd (omega (arith, room 1 cs x k))) (letter-or-none 1 cs a x t)
 
 -- the empty word is the anagram of no letters
-pub empty-word : (cs : List ℕ) → total cs ≡ 0 → isAnagram cs [] ≡ true
+pub empty-word : (cs : List ℕ) → isAnagram cs [] ≡ eqb 0 (total cs)
 unfolding isAnagram
-empty-word cs e = rw (nothing-left 1 cs, e)
+empty-word cs = rw (nothing-left 1 cs) (and-self (eqb 0 (total cs)))
+
+-- a letter that is counted stands in the word
+pub stands-in : (cs : List ℕ) (i : ℕ) (x : Bytes) → isAnagram cs x ≡ true → 0 < getD cs i 0 → List·Memᴰ (suc i) x
+stands-in cs i [] o h = absurd (omega (arith, anagram-cases cs [] o .0, total-less cs i h))
+stands-in cs i (b ∷ x) o h = let (j, e, _, rest) = first-off cs b x o in step j e (ℕ-discrete i j) (stands-in (oneLess cs j) i x rest)
+  where
+    step : (j : ℕ) → b ≡ suc j → Dec (i ≡ j) → (0 < getD (oneLess cs j) i 0 → List·Memᴰ (suc i) x) → List·Memᴰ (suc i) (b ∷ x)
+    step j e (yes s) later = List·Memᴰ·head (ap suc s ∙ sym e)
+    step j e (no n) later = List·Memᴰ·tail (later (rw (← one-less-set cs j, getD-set-other cs j i (getD cs j 0 - 1) 0 n) h))
+
+-- the letters in another order
+
+same-letters : {x y : Bytes} → List·Permᴰ x y → (length x ≡ length y) × ((a : ℕ) → occurrences a x ≡ occurrences a y)
+unfolding occurrences
+same-letters List·Permᴰ·nil = (refl, λ a. refl)
+same-letters (List·Permᴰ·cons e p) = (ap suc (same-letters p .0), λ a. rw (e, same-letters p .1 a))
+same-letters (List·Permᴰ·swap e f) = (refl, λ a. rw (e, f) (omega arith))
+same-letters (List·Permᴰ·trans p q) = (same-letters p .0 ∙ same-letters q .0, λ a. same-letters p .1 a ∙ same-letters q .1 a)
+
+same-tallies : (i : ℕ) (cs : List ℕ) {x y : Bytes} → List·Permᴰ x y → tallies i cs x ≡ tallies i cs y
+unfolding tallies
+same-tallies i [] p = refl
+same-tallies i (c ∷ cs) p = rw (same-letters p .1 i, same-tallies (suc i) cs p)
+
+pub rearranged : (cs : List ℕ) {x y : Bytes} → List·Permᴰ x y → isAnagram cs x ≡ isAnagram cs y
+unfolding isAnagram
+rearranged cs p = rw (same-letters p .0, same-tallies 1 cs p)

@@ -1,13 +1,8 @@
 -- That the listing of anagrams is all of them in order, how many there are, and the same of permutations.
 pub mod Facts
 pub mod Theorem
-pub mod PermutationTheorem
 pub mod Laws
-pub mod Rearranging
+pub mod Places
 pub mod Neighbours
-pub mod Tails
+pub mod Testing
 pub mod Swaps
-pub mod Moves
-pub mod Sorted
-pub mod Spending
-pub mod Ones

@@ -1,12 +1,12 @@
 // Letters that are left: taken one by one, and whether none is left.
 ghost use mathlib.Core.Path.{_≡_};
 ghost use lib.Dec.{eqb};
-ghost use Rattle.numbers.specs.Sums.{total};
+ghost use Rattle.basics.specs.Sums.{total};
 ghost use Rattle.anagrams.specs.Objects.{isAnagram};
 
 // Is no letter left?
 fn none_left(left: &[u8]) -> bool
-    ensures { λ r. ⌜ r ≡ eqb (total (now (left .entry))) 0 ⌝ }
+    ensures { λ r. ⌜ r ≡ eqb 0 (total (now (left .entry))) ⌝ }
 {
     let mut i = 0;
     while i < left.len() {

@@ -6,7 +6,7 @@ ghost use mathlib.Core.List.{List};
 ghost use Prim.Native.Nat.{ℕ, _≤_};
 ghost use lib.ListN.{length};
 ghost use Rattle.numbers.specs.Limits.{places};
-ghost use Rattle.numbers.specs.Sums.{total};
+ghost use Rattle.basics.specs.Sums.{total};
 ghost use Rattle.listings.specs.Calls.{NEXT, PREVIOUS, Said, act};
 ghost use Rattle.listings.specs.Places.{First, Last};
 ghost use Rattle.listings.specs.Steps.{stepAs};

@@ -1,10 +1,11 @@
 // A step to the next or the previous word: one function for both directions.
 ghost use mathlib.Core.Path.{_≡_};
-ghost use mathlib.Core.Bool.{true, cond};
+ghost use mathlib.Core.Bool.{true};
 ghost use mathlib.Core.List.{List, reverse};
 ghost use Prim.Native.Nat.{ℕ, _+_, _-_, _<_};
 ghost use lib.ListN.{length, getD, set, drop};
-ghost use Rattle.listings.specs.Calls.{NEXT, PREVIOUS, Said, act};
+ghost use Rattle.listings.specs.Calls.{Said, act};
+ghost use Rattle.listings.specs.Directions.{stepCall};
 ghost use Rattle.listings.specs.Steps.{stepAs};
 ghost use Rattle.anagrams.specs.Objects.{isAnagram, anagramBefore};
 ghost use Rattle.anagrams.specs.Listing.{anagrams};
@@ -73,7 +74,7 @@ pub fn turn_round(part: &mut [u8])
 
 // The pivot in front of the tail takes the next letter of the tail, and the tail starts over.
 pub fn step(object: &mut [u8], up: bool) -> Step
-    ensures { λ r. ⌜ ((cs : List ℕ) → isAnagram cs (now (object .entry)) ≡ true → _≡_ {A = Said} (stepAs r, now (object .exit)) (act (cond up NEXT PREVIOUS) anagramBefore (anagrams cs) (now (object .entry)))) ⌝ }
+    ensures { λ r. ⌜ ((cs : List ℕ) → isAnagram cs (now (object .entry)) ≡ true → _≡_ {A = Said} (stepAs r, now (object .exit)) (act (stepCall up) anagramBefore (anagrams cs) (now (object .entry)))) ⌝ }
 {
     let tail = tail_start(object, up);
     if tail == 0 {

@@ -10,7 +10,7 @@ use lib.ListN.{getD}
 use borrow.Author.Tests.{eqb-true, leb-true, ltb-true, lt-ltb}
 use Rattle.numbers.specs.Limits.{places}
 use Rattle.numbers.specs.Numbers.{choose}
-use Rattle.numbers.specs.Sums.{range}
+use Rattle.basics.specs.Sums.{range}
 use Rattle.numbers.proofs.Triangles.{row}
 use Rattle.numbers.proofs.Weighted.{step}
 use Rattle.numbers.proofs.Binomials.{pascal-weighted}

@@ -14,7 +14,7 @@ use lib.ListN.{length, getD, take, drop, replicate, length-drop}
 use lib.Seq.{drop-cons, take-all}
 use borrow.Author.Tests.{le-leb, lt-leb, leb-true, eq-eqb, ne-eqb}
 use Rattle.listings.specs.Bytes.{Bytes}
-use Rattle.listings.proofs.Bools.{and-true}
+use Rattle.basics.proofs.Bools.{and-true}
 use Rattle.columns.specs.Columns.{blank, column}
 use Rattle.columns.specs.Fields.{fieldWidth, largestField, digits, field}
 use Rattle.columns.proofs.ColumnLaws.{column-digit, column-digits}

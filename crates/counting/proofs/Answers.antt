@@ -9,7 +9,7 @@ use lib.Dec.{leb, ltb}
 use borrow.Author.Tests.{lt-ltb, le-ltb, ltb-true, ltb-false, le-leb, lt-leb}
 use Rattle.counting.specs.declared.Count.{Count}
 use Rattle.counting.specs.declared.Count.the-variants.{Exactly, TooLarge, Outside}
-use Rattle.counting.specs.Answers.{fits, within, ifFits}
+use Rattle.counting.specs.Answers.{fits, ifFits}
 
 pub fits-small : (v : ℕ) → v < 2 ^ 64 → fits v ≡ Exactly v
 unfolding fits
@@ -58,20 +58,18 @@ answered v = go (ltb v (2 ^ 64)) refl
     go true e = let h = ltb-true v (2 ^ 64) e in inl (h, fits-small v h)
     go false e = let h = ltb-false v (2 ^ 64) e in inr (h, fits-large v h)
 
-pub within-in : (t : Bool) (a : Count) → t ≡ true → within t a ≡ a
-unfolding within
+pub within-in : (t : Bool) (a : Count) → t ≡ true → cond t a Outside ≡ a
 within-in t a e = rw e
 
-pub within-out : (t : Bool) (a : Count) → t ≡ false → within t a ≡ Outside
-unfolding within
+pub within-out : (t : Bool) (a : Count) → t ≡ false → cond t a Outside ≡ Outside
 within-out t a e = rw e
 
 -- the answers of a function within the limits, from what it returns
 
-pub exactly-within : {t : Bool} {v x : ℕ} → t ≡ true → x ≡ v → v < 2 ^ 64 → Exactly x ≡ within t (fits v)
+pub exactly-within : {t : Bool} {v x : ℕ} → t ≡ true → x ≡ v → v < 2 ^ 64 → Exactly x ≡ cond t (fits v) Outside
 exactly-within {t} {v} e same h = ap Exactly same ∙ sym (within-in t (fits v) e ∙ fits-small v h)
 
-pub large-within : {t : Bool} {v : ℕ} → t ≡ true → 2 ^ 64 ≤ v → TooLarge ≡ within t (fits v)
+pub large-within : {t : Bool} {v : ℕ} → t ≡ true → 2 ^ 64 ≤ v → TooLarge ≡ cond t (fits v) Outside
 large-within {t} {v} e h = sym (within-in t (fits v) e ∙ fits-large v h)
 
 -- two arguments with one limit

@@ -1,12 +1,13 @@
 // The answers about the counts of paper 01's families: each exact, or too large. They answer any arguments: those outside the limits of the
 // paper's table by a case of their own. `catalan_that_fits`, for ranks, answers a plain number, and 0 where it doesn't fit.
 ghost use mathlib.Core.Path.{_≡_};
-ghost use mathlib.Core.Bool.{_&&_};
+ghost use mathlib.Core.Bool.{_&&_, cond};
 ghost use lib.Dec.{leb};
 ghost use Rattle.numbers.specs.Limits.{places, branches, floors};
-ghost use Rattle.numbers.specs.Sums.{total};
+ghost use Rattle.basics.specs.Sums.{total};
 ghost use Rattle.numbers.specs.Numbers.{choose, factorialOf, multinomialOf, stirlingOf, partsFrom, catalanOf};
-ghost use Rattle.counting.specs.Answers.{fits, within, ifFits};
+ghost use Rattle.counting.specs.declared.Count.the-variants.{Outside};
+ghost use Rattle.counting.specs.Answers.{fits, ifFits};
 
 mod product;
 mod short;
@@ -26,7 +27,7 @@ pub enum Count {
 
 // Kind 1, what COUNT answers: subsets of k out of n, a number of paper 01's constant table or worked out from it.
 pub fn subset_count(n: u64, k: u64) -> Count
-    ensures { λ r. ⌜ r ≡ within (leb n places && leb k places) (fits (choose n k)) ⌝ }
+    ensures { λ r. ⌜ r ≡ cond (leb n places && leb k places) (fits (choose n k)) Outside ⌝ }
 {
     if PLACES < n {
         return Count::Outside;
@@ -42,7 +43,7 @@ pub fn subset_count(n: u64, k: u64) -> Count
 
 // The same number for the questions and for products, by a few multiplications whatever the row.
 pub fn coefficient(n: u64, k: u64) -> Count
-    ensures { λ r. ⌜ r ≡ within (leb n places && leb k places) (fits (choose n k)) ⌝ }
+    ensures { λ r. ⌜ r ≡ cond (leb n places && leb k places) (fits (choose n k)) Outside ⌝ }
 {
     if PLACES < n {
         return Count::Outside;
@@ -55,7 +56,7 @@ pub fn coefficient(n: u64, k: u64) -> Count
 
 // Kind 2: anagrams, letter i as often as counts[i] says.
 pub fn multinomial(counts: &[u8]) -> Count
-    ensures { λ r. ⌜ r ≡ within (leb (total (now (counts .entry))) places) (fits (multinomialOf (now (counts .entry)))) ⌝ }
+    ensures { λ r. ⌜ r ≡ cond (leb (total (now (counts .entry))) places) (fits (multinomialOf (now (counts .entry)))) Outside ⌝ }
 {
     if product::within_places(counts) {
         return product::of_binomials(counts);
@@ -65,7 +66,7 @@ pub fn multinomial(counts: &[u8]) -> Count
 
 // Kind 3: permutations of n.
 pub fn factorial(n: u64) -> Count
-    ensures { λ r. ⌜ r ≡ within (leb n places) (fits (factorialOf n)) ⌝ }
+    ensures { λ r. ⌜ r ≡ cond (leb n places) (fits (factorialOf n)) Outside ⌝ }
 {
     if PLACES < n {
         return Count::Outside;
@@ -78,7 +79,7 @@ pub fn factorial(n: u64) -> Count
 
 // Kind 4: partitions of a set of n into k blocks.
 pub fn stirling(n: u64, k: u64) -> Count
-    ensures { λ r. ⌜ r ≡ within (leb n places && leb k places) (fits (stirlingOf n k)) ⌝ }
+    ensures { λ r. ⌜ r ≡ cond (leb n places && leb k places) (fits (stirlingOf n k)) Outside ⌝ }
 {
     if PLACES < n {
         return Count::Outside;
@@ -94,7 +95,7 @@ pub fn stirling(n: u64, k: u64) -> Count
 
 // Kind 5: partitions of the number n into exactly k parts, each at least the floor.
 pub fn partitions(floor: u64, n: u64, k: u64) -> Count
-    ensures { λ r. ⌜ r ≡ within ((leb 1 floor && leb floor floors) && (leb n places && leb k places)) (fits (partsFrom floor n k)) ⌝ }
+    ensures { λ r. ⌜ r ≡ cond ((leb 1 floor && leb floor floors) && (leb n places && leb k places)) (fits (partsFrom floor n k)) Outside ⌝ }
 {
     if floor < 1 {
         return Count::Outside;
@@ -113,7 +114,7 @@ pub fn partitions(floor: u64, n: u64, k: u64) -> Count
 
 // Kind 6: Dyck words with n of each.
 pub fn catalan(n: u64) -> Count
-    ensures { λ r. ⌜ r ≡ within (leb n branches) (fits (catalanOf n)) ⌝ }
+    ensures { λ r. ⌜ r ≡ cond (leb n branches) (fits (catalanOf n)) Outside ⌝ }
 {
     if BRANCHES < n {
         return Count::Outside;

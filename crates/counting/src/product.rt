@@ -3,34 +3,21 @@ ghost use mathlib.Core.Path.{_≡_};
 ghost use lib.Dec.{leb};
 ghost use Prim.Native.Nat.{_≤_, _*_};
 ghost use Rattle.numbers.specs.Limits.{places};
-ghost use Rattle.numbers.specs.Sums.{total};
+ghost use Rattle.basics.specs.Sums.{total};
 ghost use Rattle.numbers.specs.Numbers.{choose, multinomialOf};
 ghost use Rattle.counting.specs.Answers.{fits};
 use crate::Count;
+use basics::sum_to_limit;
+use basics::wide;
 use binomials::coefficient;
 use binomials::coefficient_fits;
 use numbers::PLACES;
 
-fn wide(b: u8) -> u64
-    ensures { λ r. ⌜ r ≡ b ⌝ }
-{
-    b as u64
-}
-
-// Is the sum of the counts within the places? It stops at the first count that leads past the limit, so no sum wraps.
+// Is the sum of the counts within the places?
 pub fn within_places(counts: &[u8]) -> bool
     ensures { λ r. ⌜ r ≡ leb (total (now (counts .entry))) places ⌝ }
 {
-    let mut sum: u64 = 0;
-    let mut i = 0;
-    while i < counts.len() {
-        sum += wide(counts[i]);
-        if PLACES < sum {
-            return false;
-        }
-        i += 1;
-    }
-    true
+    sum_to_limit(PLACES, counts) <= PLACES
 }
 
 // k out of n, exactly or too large.

@@ -1,3 +1,3 @@
 -- Ranks of Dyck words: where a word stands, by where its inside and its rest stand.
-pub mod RankLaws
+pub mod Ranks
 pub mod Cutting

@@ -4,6 +4,7 @@ ghost use mathlib.Core.Path.{_≡_};
 ghost use mathlib.Core.Bool.{true};
 ghost use Prim.Native.Nat.{_*_, _≤_, _<_, _^_};
 ghost use lib.ListN.{length};
+ghost use Rattle.numbers.specs.Limits.{branches};
 ghost use Rattle.numbers.specs.Numbers.{catalanOf};
 ghost use Rattle.listings.specs.Places.{At, countBefore};
 ghost use Rattle.dyck_words.specs.Objects.{isDyckWord};
@@ -16,12 +17,13 @@ use dyck_words::row_lengths;
 
 // How many words come before it.
 pub fn rank(n: u64, object: &[u8]) -> u64
+    requires { ⌜ n ≤ branches ⌝ }
     requires { ⌜ isDyckWord n (now object) ≡ true ⌝ }
     requires { ⌜ catalanOf n < 2 ^ 64 ⌝ }
     ensures { λ r. ⌜ r ≡ countBefore dyckBefore (now (object .entry)) (dyckWords n) ⌝ }
 {
     let rows = row_lengths(object);
-    ranking::rank_of(n, object, &rows, 0)
+    ranking::rank_of(n, object, &rows, object.len())
 }
 
 // The word of a rank.

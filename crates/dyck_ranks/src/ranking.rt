@@ -4,6 +4,7 @@ ghost use mathlib.Core.Path.{_≡_};
 ghost use mathlib.Core.Bool.{true};
 ghost use Prim.Native.Nat.{suc, _+_, _*_, _-_, _≤_, _<_, _^_};
 ghost use lib.ListN.{length};
+ghost use Rattle.numbers.specs.Limits.{longestObject};
 ghost use Rattle.numbers.specs.Numbers.{catalanOf};
 ghost use Rattle.listings.specs.Places.{At};
 ghost use Rattle.dyck_words.specs.Objects.{isDyckWord};
@@ -45,24 +46,23 @@ fn shorter_insides(n: u64, j: u64) -> u64
 }
 
 // Ranking lends the inside and the rest to itself as parts from the middle of the word.
-pub fn rank_of(n: u64, object: &[u8], rows: &[u8; ROWS], after: usize) -> u64
+pub fn rank_of(n: u64, object: &[u8], rows: &[u8; ROWS], left: usize) -> u64
     requires { ⌜ isDyckWord n (now object) ≡ true ⌝ }
-    requires { ⌜ (after + length (now object) < 2 ^ 64) × Told (now object) after (now rows) ⌝ }
+    requires { ⌜ (length (now object) ≤ left) × (left ≤ longestObject) × Told (now object) left (now rows) ⌝ }
     requires { ⌜ catalanOf n < 2 ^ 64 ⌝ }
     ensures { λ r. ⌜ At (dyckWords n) (now (object .entry)) r ⌝ }
 {
     if n == 0 {
         return 0;
     }
-    let len = inside_len(object, rows, after);
+    let len = inside_len(object, rows, left);
     let close = len + 1;
     let rest = len + 2;
     let j = (len / 2) as u64;
     let m = n - 1;
     let k = m - j;
-    let behind = after + (object.len() - close);
-    let inside_rank = rank_of(j, &object[1..close], rows, behind);
-    let rest_rank = rank_of(k, &object[rest..], rows, after);
+    let inside_rank = rank_of(j, &object[1..close], rows, left - 1);
+    let rest_rank = rank_of(k, &object[rest..], rows, left - rest);
     shorter_insides(m, j) + inside_rank * ways(k) + rest_rank
 }
 

@@ -1,7 +1,7 @@
 -- Kind 6's row of the table keeps its laws.
 -- Assumes nothing.
 use mathlib.Core.Bool.{Bool, true, _&&_}
-use Prim.Native.Nat.{ℕ, _*_, _≤_}
+use Prim.Native.Nat.{ℕ, _*_}
 use native.Mathlib.Omega.{arith}
 use lib.Dec.{leb, eqb}
 use borrow.Author.Tests.{leb-true}
@@ -9,7 +9,7 @@ use Rattle.numbers.specs.Limits.{branches}
 use Rattle.numbers.specs.Numbers.{catalanOf}
 use Rattle.numbers.proofs.Positive.{catalan-some}
 use Rattle.listings.specs.Rows.{RowLaws}
-use Rattle.listings.proofs.Bools.{and-true}
+use Rattle.basics.proofs.Bools.{and-true}
 use Rattle.dyck_words.specs.Objects.{isDyckWord}
 use Rattle.dyck_words.specs.Trees.{dyckBefore}
 use Rattle.dyck_words.specs.Listing.{dyckWords}

@@ -1,64 +1,71 @@
--- What stands in a slice after parts of it were lent: its tail, and the inside and the rest of a word.
+-- What stands in a slice after parts of it were lent: the inside and the rest of a word, which step or are written anew.
 -- Assumes nothing.
-use mathlib.Core.Path.{_≡_, sym, _∙_, ap, ap₂}
-use mathlib.Core.List.{[], _∷_, _++_, append-nil, append-assoc}
-use Prim.Native.Nat.{ℕ, suc, _+_, _*_, _-_, _<_}
+use mathlib.Core.Path.{_≡_, refl, sym, _∙_, ap, ap₂}
+use mathlib.Core.List.{[], _∷_, _++_, append-assoc}
+use Prim.Native.Nat.{ℕ, zero, suc, _+_, _*_, _-_, _<_}
 use native.Mathlib.Omega.{arith}
-use lib.ListN.{length, getD, take, drop, set, replicate, length-append, length-drop, length-set, length-replicate, drop-of-length-le}
-use lib.Seq.{length-take-le, take-all, take-at, drop-at, drop-cons, set-at}
+use lib.ListN.{length, getD, take, drop, set, length-append, length-set}
+use lib.Seq.{take-at, drop-at, append-snoc}
 use borrow.Rule.Slice.PartMut.{midOf, putMid, mid-len, same-len-mid}
+use Rattle.basics.proofs.Lists.{lent-rest, put-rest, drop-set}
 use Rattle.listings.specs.Bytes.{Bytes}
-use Rattle.dyck_words.specs.Trees.{Tree, node, size, word}
+use Rattle.dyck_words.specs.Trees.{Tree, leaf, node, size, word}
+use Rattle.dyck_words.specs.inner.Reading.{Told}
 use Rattle.dyck_words.specs.inner.Moves.{Parts}
-use Rattle.dyck_words.proofs.Words.{word-length}
+use Rattle.dyck_words.proofs.Facts.{word-length, word-injective}
+use Rattle.dyck_words.proofs.RowTable.{stops-more}
 
--- `&mut x[a..]`
-tail-lent : (a : ℕ) (x : Bytes) → midOf a (length x - a) x ≡ drop a x
-tail-lent a x = take-all (length x - a) (drop a x) (rw length-drop (omega arith))
+-- the slice with a 1 in front and a 0 at `close`, and with an inside a between them
 
-tail-long : (a : ℕ) (x : Bytes) → length (midOf a (length x - a) x) ≡ length x - a
-tail-long a x = ap length (tail-lent a x) ∙ length-drop a x
+abbrev pub bracketed : Bytes → ℕ → Bytes
+bracketed x close = set (set x 0 1) close 0
 
-tail-put : (a : ℕ) (x y : Bytes) → putMid a (length x - a) x y ≡ take a x ++ y
-tail-put a x y = rw (drop-of-length-le (drop a x) {i = length x - a} (rw length-drop (omega arith)), append-nil)
+abbrev pub filled : Bytes → ℕ → Bytes → Bytes
+filled x close a = putMid 1 (close - 1) (bracketed x close) a
 
--- a first part and the tail, each filled with one byte
-pub halves : (n h : ℕ) (x y z : Bytes) → length x ≡ 2 * n → h ≡ n → y ≡ replicate (length (take h x)) 1 → z ≡ replicate (length (midOf h (length (y ++ drop h x) - h) (y ++ drop h x))) 0
-    → putMid h (length (y ++ drop h x) - h) (y ++ drop h x) z ≡ replicate n 1 ++ replicate n 0
-halves n h x y z long half e f =
-    let first : length (take h x) ≡ n = length-take-le h x (omega arith) ∙ half in
-    let whole : length y ≡ h = ap length e ∙ length-replicate (length (take h x)) 1 ∙ first ∙ sym half in
-    let second : length (drop h x) ≡ n = length-drop h x ∙ omega arith in
-    tail-put h (y ++ drop h x) z
-    ∙ ap₂ (λ (a b : Bytes). a ++ b) (take-at y (drop h x) h whole ∙ e ∙ ap (λ k. replicate k 1) first)
-    (f ∙ ap (λ (l : Bytes). replicate (length l) 0) (tail-lent h (y ++ drop h x) ∙ drop-at y (drop h x) h whole) ∙ ap (λ k. replicate k 0) second)
+pub inside-length : (x : Bytes) (close : ℕ) → close < length x → length (midOf 1 (close - 1) (bracketed x close)) ≡ close - 1
+inside-length x close within = mid-len 1 close (bracketed x close) (simp length-set (omega arith))
 
--- y is written behind the first byte, and then 0 is stored
+filled-is : (x a : Bytes) (close : ℕ) → 0 < close → close < length x → filled x close a ≡ (1 ∷ (a ++ (0 ∷ []))) ++ drop (suc close) x
+filled-is [] a close h k = absurd (omega arith)
+filled-is (c ∷ y) a zero h k = absurd (omega arith)
+filled-is (c ∷ y) a (suc m) h k = let e : suc m - 1 ≡ m = omega arith in rw (e, drop-set y m 0 (omega arith), append-assoc)
 
-abbrev pub stored : Bytes → Bytes → ℕ → Bytes
-stored x y close = set (putMid 1 (close - 1) x y) close 0
+-- and with a rest b behind the 0
+pub record Laid (x : Bytes) (close : ℕ) (a : Bytes) : Type 0 where
+  pub long : length (filled x close a) ≡ length x
+  pub rest-lent : length (midOf (close + 1) (length (filled x close a) - (close + 1)) (filled x close a)) ≡ length x - (close + 1)
+  pub whole : (b : Bytes) → putMid (close + 1) (length (filled x close a) - (close + 1)) (filled x close a) b ≡ 1 ∷ (a ++ (0 ∷ b))
+  pub same-long : (b : Bytes) → length b ≡ length (midOf (close + 1) (length (filled x close a) - (close + 1)) (filled x close a)) → length (putMid (close + 1) (length (filled x close a) - (close + 1)) (filled x close a) b) ≡ length x
 
-stored-long : (x y : Bytes) (close : ℕ) → length y ≡ length (midOf 1 (close - 1) x) → length (stored x y close) ≡ length x
-stored-long x y close same = length-set (putMid 1 (close - 1) x y) close 0 ∙ same-len-mid 1 (close - 1) x y same
+pub laid : (x a : Bytes) (close : ℕ) → 0 < close → close < length x → length a ≡ length (midOf 1 (close - 1) (bracketed x close)) → Laid x close a
+laid x a close low within same =
+    let front : length (1 ∷ (a ++ (0 ∷ []))) ≡ close + 1 = simp length-append (omega (arith, inside-length x close within)) in
+    let as-long : length (filled x close a) ≡ length x = same-len-mid 1 (close - 1) (bracketed x close) a same ∙ simp length-set in
+    record {
+      long = as-long;
+      rest-lent = mid-len (close + 1) (length (filled x close a)) (filled x close a) (omega arith) ∙ ap (λ (l : ℕ). l - (close + 1)) as-long;
+      whole = λ b.
+          put-rest (close + 1) (filled x close a) b
+          ∙ ap (λ l. take (close + 1) l ++ b) (filled-is x a close low within)
+          ∙ ap (λ l. l ++ b) (take-at (1 ∷ (a ++ (0 ∷ []))) (drop (suc close) x) (close + 1) front)
+          ∙ append-snoc (1 ∷ a) 0 b;
+      same-long = λ b h. same-len-mid (close + 1) (length (filled x close a) - (close + 1)) (filled x close a) b h ∙ as-long;
+    }
 
-stored-front : (b : ℕ) (x y : Bytes) (close : ℕ) → 0 < close → close < length (b ∷ x) → length y ≡ close - 1
-    → stored (b ∷ x) y close ≡ (b ∷ (y ++ (0 ∷ []))) ++ drop (suc (close - 1)) x
-stored-front b x y close positive inside same =
-    ap (λ l. set (b ∷ (y ++ l)) close 0) (drop-cons x (close - 1) 0 (omega arith))
-    ∙ set-at (b ∷ y) (getD x (close - 1) 0) (drop (suc (close - 1)) x) 0 close (omega arith)
-    ∙ sym (append-assoc (b ∷ y) (0 ∷ []) (drop (suc (close - 1)) x))
+-- a word is empty, or has parts
 
--- and z behind the 0
-laid : (b : ℕ) (x y z : Bytes) (close : ℕ) → 0 < close → close < length (b ∷ x) → length y ≡ close - 1
-    → putMid (close + 1) (length (stored (b ∷ x) y close) - (close + 1)) (stored (b ∷ x) y close) z ≡ b ∷ (y ++ (0 ∷ z))
-laid b x y z close positive inside same =
-    let d = drop (suc (close - 1)) x in
-    tail-put (close + 1) (stored (b ∷ x) y close) z
-    ∙ ap (λ l. take (close + 1) l ++ z) (stored-front b x y close positive inside same)
-    ∙ ap (λ l. l ++ z) (take-at (b ∷ (y ++ (0 ∷ []))) d (close + 1) (simp length-append (omega arith)))
-    ∙ append-assoc (b ∷ y) (0 ∷ []) z
+pub empty-leaf : (t : Tree) → length (word t) ≡ 0 → t ≡ leaf
+unfolding word
+empty-leaf leaf none = refl
+empty-leaf (node i r) none = absurd (omega arith)
 
--- the rest and the inside of a word as they are lent, and what y in their place makes of the whole
+pub parted : (t : Tree) {x : Bytes} {len : ℕ} → x ≡ word t → (length x ≡ 0 → ⊥) → ((i r : Tree) → x ≡ word (node i r) → len ≡ length (word i)) → (i : Tree) × (r : Tree) × Parts x len i r
+unfolding word
+parted leaf e some found = absurd (some (ap length e))
+parted (node i r) e some found = (i, r, record { whole = e; long = found i r e })
+
+-- the inside and the rest of a word as they are lent, and what y in their place makes of the whole
 
 abbrev pub restPart : Bytes → ℕ → Bytes
 restPart x len = midOf (len + 2) (length x - (len + 2)) x
@@ -73,6 +80,7 @@ abbrev pub withInside : Bytes → ℕ → Bytes → Bytes
 withInside x len y = putMid 1 (len + 1 - 1) x y
 
 -- all but the rest, and the rest
+
 rest-apart : (i r : Tree) → word (node i r) ≡ (1 ∷ (word i ++ (0 ∷ []))) ++ word r
 unfolding word
 rest-apart i r = rw append-assoc
@@ -88,16 +96,22 @@ module _ {x : Bytes} {len : ℕ} {i r : Tree} (p : Parts x len i r) where
   pub inside-long : len ≡ 2 * size i
   inside-long = p .long ∙ word-length i
 
+  pub only-node : (t : Tree) → x ≡ word t → node i r ≡ t
+  only-node t e = word-injective (node i r) t (sym (p .whole) ∙ e)
+
   pub rest-lent : restPart x len ≡ word r
   rest-lent =
-      tail-lent (len + 2) x
+      lent-rest (len + 2) x
       ∙ ap (drop (len + 2)) (p .whole ∙ rest-apart i r)
       ∙ drop-at (1 ∷ (word i ++ (0 ∷ []))) (word r) (len + 2) (front-long i (p .long))
+
+  pub rest-long : length (restPart x len) ≡ 2 * size r
+  rest-long = ap length rest-lent ∙ word-length r
 
   pub rest-put : {y : Bytes} (s : Tree) → y ≡ word s → Parts (withRest x len y) len i s
   rest-put {y} s e = record {
     whole =
-        tail-put (len + 2) x y
+        put-rest (len + 2) x y
         ∙ ap₂ (λ (a b : Bytes). a ++ b) (ap (take (len + 2)) (p .whole ∙ rest-apart i r) ∙ take-at (1 ∷ (word i ++ (0 ∷ []))) (word r) (len + 2) (front-long i (p .long))) e
         ∙ sym (rest-apart i s);
     long = p .long;
@@ -109,6 +123,9 @@ module _ {x : Bytes} {len : ℕ} {i r : Tree} (p : Parts x len i r) where
       ap (λ y. insidePart y len) (p .whole)
       ∙ take-at (word i) (0 ∷ word r) (len + 1 - 1) (omega (arith, p .long))
 
+  pub inside-part-long : length (insidePart x len) ≡ len
+  inside-part-long = ap length inside-lent ∙ sym (p .long)
+
   pub inside-put : {y : Bytes} (k : Tree) → y ≡ word k → length y ≡ length (insidePart x len) → Parts (withInside x len y) len k r
   unfolding word
   inside-put {y} k e same = record {
@@ -118,15 +135,23 @@ module _ {x : Bytes} {len : ℕ} {i r : Tree} (p : Parts x len i r) where
     long = p .long ∙ sym (ap length inside-lent) ∙ sym same ∙ ap length e;
   }
 
-  -- a writer of trees writes an inside of a branches up to `close`; 0 is stored; and the writer writes a rest of b branches
-  pub written : (tree : ℕ → Tree) (close a b : ℕ) {y z : Bytes} → close ≡ 2 * a + 1 → length x ≡ close + 1 + 2 * b → length y ≡ length (midOf 1 (close - 1) x)
-      → ((n : ℕ) → length (midOf 1 (close - 1) x) ≡ 2 * n → y ≡ word (tree n))
-      → ((n : ℕ) → length (midOf (close + 1) (length (stored x y close) - (close + 1)) (stored x y close)) ≡ 2 * n → z ≡ word (tree n))
-      → putMid (close + 1) (length (stored x y close) - (close + 1)) (stored x y close) z ≡ word (node (tree a) (tree b))
+  -- the table has the rows of both
+
+  pub rest-told : {left : ℕ} {rows : Bytes} → Told x left rows → Told (restPart x len) (left - (len + 2)) rows
   unfolding word
-  written tree close a b {y} {z} e long same inner outer =
-      let part : length (midOf 1 (close - 1) x) ≡ 2 * a = mid-len 1 close x (omega arith) ∙ omega arith in
-      let rest : length (stored x y close) - (close + 1) ≡ 2 * b = omega (arith, stored-long x y close same) in
-      ap (λ w. putMid (close + 1) (length (stored w y close) - (close + 1)) (stored w y close) z) (p .whole)
-      ∙ laid 1 (word i ++ (0 ∷ word r)) y z close (omega arith) (omega (arith, ap length (p .whole))) (omega arith)
-      ∙ ap₂ (λ (a b : Bytes). 1 ∷ (a ++ (0 ∷ b))) (inner a part) (outer b (tail-long (close + 1) (stored x y close) ∙ rest))
+  rest-told {left} {rows} told = record {
+    low = told .low;
+    tells = λ a b t g s.
+        let place : left - (len + 2) - length a ≡ left - length (1 ∷ (word i ++ (0 ∷ a))) = omega (arith, p .long, length-append (word i) (0 ∷ a)) in
+        ap (λ k. getD rows k 0) place ∙ told .tells (1 ∷ (word i ++ (0 ∷ a))) b t (p .whole ∙ ap (λ z. 1 ∷ (word i ++ (0 ∷ z))) (sym rest-lent ∙ g) ∙ simp append-assoc) s;
+  }
+
+  pub inside-told : {y : Bytes} {left : ℕ} {rows : Bytes} → x ≡ y → Told y left rows → Told (insidePart x len) (left - 1) rows
+  unfolding word
+  inside-told {left} {rows} e told = record {
+    low = told .low;
+    tells = λ a b t g s.
+        let split : word i ++ (0 ∷ word r) ≡ a ++ (word t ++ (b ++ (0 ∷ word r))) = ap (λ z. z ++ (0 ∷ word r)) (sym inside-lent ∙ g) ∙ simp append-assoc in
+        let place : left - 1 - length a ≡ left - length (1 ∷ a) = omega arith in
+        ap (λ k. getD rows k 0) place ∙ told .tells (1 ∷ a) (b ++ (0 ∷ word r)) t (sym e ∙ p .whole ∙ ap (λ z. 1 ∷ z) split) (stops-more b (word r) s);
+  }

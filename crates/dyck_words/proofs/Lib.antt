@@ -1,15 +1,11 @@
 -- Kind 6: its listing is the listing of Dyck words.
-pub mod Words
-pub mod TreeOrder
-pub mod TreeLists
+pub mod Facts
 pub mod Theorem
 pub mod Laws
-pub mod Dictionary
-pub mod Passing
-pub mod Closing
+pub mod Places
+pub mod Neighbours
+pub mod Testing
+pub mod TreeOrder
 pub mod RowTable
-pub mod TreeSteps
-pub mod Edges
 pub mod Lent
-pub mod StepParts
-pub mod WordSteps
+pub mod Dictionary

@@ -1,125 +1,83 @@
 -- The table of the row lengths: how it is filled from the right, and what it tells of a word and of its parts.
 -- Assumes nothing.
-use mathlib.Core.Path.{_≡_, refl, sym, _∙_, ap}
-use mathlib.Core.Logic.{_⊎_, inl, inr, ⊎-elim}
+use mathlib.Core.Path.{_≡_, refl, sym, _∙_, ap, subst₂}
+use mathlib.Core.Logic.{⊎-elim}
 use mathlib.Core.List.{[], _∷_, _++_, append-assoc}
-use Prim.Native.Nat.{ℕ, zero, suc, _+_, _-_, _≤_, _<_}
-use native.Mathlib.Nat.{zero-add, eq-or-lt-of-le}
+use Prim.Native.Nat.{ℕ, zero, suc, _+_, _-_, _<_}
 use native.Mathlib.Omega.{arith}
-use lib.ListN.{length, getD, set, replicate, length-append, length-set}
-use lib.Seq.{getD-append-add, getD-set-same, getD-set-other}
+use lib.Dec.{eqb}
+use lib.ListN.{length, getD, set, drop, replicate, length-append, length-drop, drop-of-length-le}
+use lib.Seq.{getD-set-same, getD-set-other, drop-cons}
+use borrow.Author.Tests.{eqb-true, eqb-false}
 use Rattle.numbers.specs.Limits.{longestObject}
+use Rattle.basics.proofs.Bools.{true-or-false}
 use Rattle.listings.specs.Bytes.{Bytes}
 use Rattle.dyck_words.specs.Trees.{Tree, leaf, node, word}
 use Rattle.dyck_words.specs.inner.Reading.{RowHere, Stops, Told}
 
--- the table has the rows that start with at most d bytes left
-pub record Filled (x rows : Bytes) (d : ℕ) : Type 0 where
-  pub short : d ≤ length x
-  pub room : length rows ≡ longestObject + 1
-  pub low : (k : ℕ) → getD rows k 0 ≤ k
-  pub tells : (a b : Bytes) (t : Tree) → x ≡ a ++ (word t ++ b) → Stops b → length (word t ++ b) ≤ d → getD rows (length (word t ++ b)) 0 ≡ length (word t)
+-- with nothing left, all rows are empty
 
 zeros : (n k : ℕ) → _≡_ {A = ℕ} (getD (replicate n 0) k 0) 0
 zeros zero k = refl
 zeros (suc n) zero = refl
 zeros (suc n) (suc k) = zeros n k
 
-pub filled-none : (x : Bytes) → Filled x (replicate (longestObject + 1) 0) 0
-filled-none x = record {
-  short = omega arith;
-  room = refl;
+pub told-none : (x : Bytes) → Told (drop (length x - 0) x) 0 (replicate (longestObject + 1) 0)
+told-none x = rw (drop-of-length-le x {i = length x - 0} (omega arith)) (record {
   low = λ k. omega (arith, zeros (longestObject + 1) k);
-  tells = λ a b t e s h. let none : length (word t ++ b) ≡ 0 = omega arith in rw none (omega (arith, length-append (word t) b));
-}
+  tells = λ a b t e s. omega (arith, zeros (longestObject + 1) (0 - length a), ap length e, length-append a (word t ++ b), length-append (word t) b);
+})
 
-same-or-not : (k m : ℕ) → (k ≡ m) ⊎ (k ≡ m → ⊥)
-same-or-not zero zero = inl refl
-same-or-not zero (suc m) = inr (λ e. omega arith)
-same-or-not (suc k) zero = inr (λ e. omega arith)
-same-or-not (suc k) (suc m) = ⊎-elim (λ e. inl (ap suc e)) (λ ne. inr (λ e. ne (omega arith))) (same-or-not k m)
-
-seam : (a y : Bytes) (d : ℕ) {x : Bytes} → x ≡ a ++ y → length y ≡ d + 1 → length x - d - 1 ≡ length a + 0
-seam a y d e h = omega (arith, ap length e, length-append a y)
-
--- the byte that y starts with
-first-of : (a y : Bytes) (d : ℕ) {x : Bytes} → x ≡ a ++ y → length y ≡ d + 1 → getD x (length x - d - 1) 0 ≡ getD y 0 0
-first-of a y d {x} e h = ap (λ k. getD x k 0) (seam a y d e h) ∙ ap (λ z. getD z (length a + 0) 0) e ∙ getD-append-add a y 0 0
-
-module _ {x rows : Bytes} {d l : ℕ} (f : Filled x rows d) (here : RowHere (getD x (length x - d - 1) 0) rows d l) where
-  row-long : (a b : Bytes) (t : Tree) → x ≡ a ++ (word t ++ b) → Stops b → length (word t ++ b) ≡ d + 1 → l ≡ length (word t)
+-- a byte c more in front of d bytes y, and the length of its row in the table
+module _ {c d l : ℕ} {y rows : Bytes} (long : length y ≡ d) (told : Told y d rows) (here : RowHere c rows d l) (room : d + 1 < length rows) where
+  row-long : (b : Bytes) (t : Tree) → c ∷ y ≡ word t ++ b → Stops b → l ≡ length (word t)
   unfolding word
-  row-long a b leaf e s h = here .none (λ one. s (sym (first-of a b d e h) ∙ one))
-  row-long a b (node i r) e s h =
-      let long = length-append (word i) (0 ∷ (word r ++ b)) in
-      let whole = length-append (word i ++ (0 ∷ word r)) b in
-      let both = length-append (word i) (0 ∷ word r) in
-      let last = length-append (word r) b in
-      let one : getD x (length x - d - 1) 0 ≡ 1 = first-of a (1 ∷ ((word i ++ (0 ∷ word r)) ++ b)) d e h in
-      let inside = f .tells (a ++ (1 ∷ [])) (0 ∷ (word r ++ b)) i (e ∙ simp append-assoc) (λ z. omega arith) (omega arith) in
-      let at : length (word i ++ (0 ∷ (word r ++ b))) ≡ d = omega arith in
-      let inner : getD rows d 0 ≡ length (word i) = ap (λ k. getD rows k 0) (sym at) ∙ inside in
-      let rest = f .tells (a ++ (1 ∷ (word i ++ (0 ∷ [])))) b r (e ∙ simp append-assoc) s (omega arith) in
-      let left : d - getD rows d 0 - 1 ≡ length (word r ++ b) = omega arith in
-      let outer : getD rows (d - getD rows d 0 - 1) 0 ≡ length (word r) = ap (λ k. getD rows k 0) left ∙ rest in
-      omega (arith, here .some one (omega arith))
+  row-long b leaf e s = here .none (λ one. s (ap (λ z. getD z 0 0) (sym e) ∙ one))
+  row-long b (node i r) e s =
+      let behind : y ≡ word i ++ (0 ∷ (word r ++ b)) = ap (drop 1) e ∙ append-assoc (word i) (0 ∷ word r) b in
+      let whole = length-append (word i) (0 ∷ (word r ++ b)) in
+      let at : d ≡ d - 0 = omega arith in
+      let inside : getD rows d 0 ≡ length (word i) = ap (λ k. getD rows k 0) at ∙ told .tells [] (0 ∷ (word r ++ b)) i behind (λ z. omega arith) in
+      let left : d - getD rows d 0 - 1 ≡ d - length (word i ++ (0 ∷ [])) = omega (arith, length-append (word i) (0 ∷ [])) in
+      let rest : getD rows (d - getD rows d 0 - 1) 0 ≡ length (word r) = ap (λ k. getD rows k 0) left ∙ told .tells (word i ++ (0 ∷ [])) b r (behind ∙ simp append-assoc) s in
+      omega (arith, here .some (ap (λ z. getD z 0 0) e) (omega (arith, ap length behind)), length-append (word i) (0 ∷ word r))
 
-  pub filled-more : d < longestObject → d < length x → Filled x (set rows (d + 1) l) (d + 1)
-  filled-more small within =
-      let same : getD (set rows (d + 1) l) (d + 1) 0 ≡ l = getD-set-same rows (d + 1) l 0 (omega (arith, f .room)) in
-      let other : (k : ℕ) → (k ≡ d + 1 → ⊥) → getD (set rows (d + 1) l) k 0 ≡ getD rows k 0 = λ k. getD-set-other rows (d + 1) k l 0 in
-      record {
-        short = omega arith;
-        room = length-set rows (d + 1) l ∙ f .room;
-        low = λ k. ⊎-elim
-            (λ (e : k ≡ d + 1). rw e (omega (arith, here .low)))
-            (λ (ne : k ≡ d + 1 → ⊥). omega (arith, other k ne, f .low k))
-            (same-or-not k (d + 1));
-        tells = λ a b t e s h. ⊎-elim
-            (λ (all : length (word t ++ b) ≡ d + 1). ap (λ k. getD (set rows (d + 1) l) k 0) all ∙ same ∙ row-long a b t e s all)
-            (λ (less : length (word t ++ b) < d + 1). other (length (word t ++ b)) (λ e. omega arith) ∙ f .tells a b t e s (omega arith))
-            (eq-or-lt-of-le h);
-      }
+  other : (k : ℕ) → (k ≡ d + 1 → ⊥) → getD (set rows (d + 1) l) k 0 ≡ getD rows k 0
+  other k = getD-set-other rows (d + 1) k l 0
 
--- filled for all of x, or for as many places as it has
-pub filled-all : {x rows : Bytes} {d : ℕ} → Filled x rows d → length x ≤ d ⊎ longestObject ≤ d → Told x 0 rows
-filled-all {x} f enough = record {
-  low = f .low;
-  tells = λ a b t e s h.
-      let within : length (word t ++ b) ≤ length x = omega (arith, ap length e, length-append a (word t ++ b)) in
-      rw zero-add (f .tells a b t e s (⊎-elim (λ w. omega arith) (λ w. omega arith) enough));
-}
+  tells-more : (a b : Bytes) (t : Tree) → c ∷ y ≡ a ++ (word t ++ b) → Stops b → getD (set rows (d + 1) l) (d + 1 - length a) 0 ≡ length (word t)
+  tells-more [] b t e s = let all : d + 1 - 0 ≡ d + 1 = omega arith in rw (all, getD-set-same rows (d + 1) l 0 room) (row-long b t e s)
+  tells-more (_ ∷ a) b t e s =
+      let one : d + 1 - suc (length a) ≡ d - length a = omega arith in
+      rw one (other (d - length a) (λ z. omega arith) ∙ told .tells a b t (ap (drop 1) e) s)
 
--- a word and its parts
+  told-cons : Told (c ∷ y) (d + 1) (set rows (d + 1) l)
+  told-cons = record {
+    low = λ k. ⊎-elim
+        (λ e. let k-is = eqb-true k (d + 1) e in rw (k-is, getD-set-same rows (d + 1) l 0 room) (omega (arith, here .low)))
+        (λ e. omega (arith, other k (eqb-false k (d + 1) e), told .low k))
+        (true-or-false (eqb k (d + 1)));
+    tells = tells-more;
+  }
 
-pub told-inside : (i r : Tree) {x : Bytes} {after : ℕ} {rows : Bytes} → Told x after rows → x ≡ word (node i r) → after + length x ≤ longestObject + 1
-    → getD rows (after + length x - 1) 0 ≡ length (word i)
+-- the last d bytes of x, and one more
+pub told-more : (x : Bytes) (d : ℕ) {l : ℕ} {rows : Bytes} → d < length x → Told (drop (length x - d) x) d rows → RowHere (getD x (length x - d - 1) 0) rows d l → d + 1 < length rows
+    → Told (drop (length x - (d + 1)) x) (d + 1) (set rows (d + 1) l)
+told-more x d {l} {rows} h told here room =
+    let at : length x - (d + 1) ≡ length x - d - 1 = omega arith in
+    let next : suc (length x - d - 1) ≡ length x - d = omega arith in
+    rw (at, drop-cons x (length x - d - 1) 0 (omega arith), next) (told-cons (length-drop (length x - d) x ∙ omega arith) told here room)
+
+-- all bytes
+pub told-all : (x : Bytes) (d : ℕ) {rows : Bytes} → d ≡ length x → Told (drop (length x - d) x) d rows → Told x (length x) rows
+told-all x d {rows} e told = let none : length x - d ≡ 0 = omega arith in subst₂ (λ k m. Told (drop k x) m rows) none e told
+
+-- the inside of a word is the row behind its first byte
+pub told-inside : (i r : Tree) {x : Bytes} {left : ℕ} {rows : Bytes} → Told x left rows → x ≡ word (node i r) → getD rows (left - 1) 0 ≡ length (word i)
 unfolding word
-told-inside i r {x} {after} {rows} told e small =
-    let left : after + length (word i ++ (0 ∷ word r)) ≡ after + length x - 1 = omega (arith, ap length e) in
-    ap (λ k. getD rows k 0) (sym left) ∙ told .tells (1 ∷ []) (0 ∷ word r) i e (λ z. omega arith) (omega arith)
-
-pub told-rest : (i r : Tree) {x y : Bytes} {after : ℕ} {rows : Bytes} → Told x after rows → x ≡ word (node i r) → y ≡ word r → Told y after rows
-unfolding word
-told-rest i r told e f = record {
-  low = told .low;
-  tells = λ a b t g. told .tells (1 ∷ (word i ++ (0 ∷ a))) b t (e ∙ ap (λ z. 1 ∷ (word i ++ (0 ∷ z))) (sym f ∙ g) ∙ simp append-assoc);
-}
+told-inside i r told e = told .tells (1 ∷ []) (0 ∷ word r) i e (λ z. omega arith)
 
 -- a row that ends in front of some bytes still does with a 0 and more behind them
-stops-more : (b y : Bytes) → Stops b → Stops (b ++ (0 ∷ y))
+pub stops-more : (b y : Bytes) → Stops b → Stops (b ++ (0 ∷ y))
 stops-more [] y s = λ z. omega arith
 stops-more (c ∷ b) y s = s
-
-pub told-part : (i r : Tree) {x y : Bytes} {after behind : ℕ} {rows : Bytes} → Told x after rows → x ≡ word (node i r) → y ≡ word i → behind ≡ after + (length x - (length (word i) + 1))
-    → Told y behind rows
-unfolding word
-told-part i r {x} {y} {after} {behind} {rows} told e f back = record {
-  low = told .low;
-  tells = λ a b t g s h.
-      let more = length-append (word t ++ b) (0 ∷ word r) in
-      let split : word i ++ (0 ∷ word r) ≡ a ++ (word t ++ (b ++ (0 ∷ word r))) = ap (λ z. z ++ (0 ∷ word r)) (sym f ∙ g) ∙ simp append-assoc in
-      let left = ap length (append-assoc (word t) b (0 ∷ word r)) in
-      let place : behind + length (word t ++ b) ≡ after + length (word t ++ (b ++ (0 ∷ word r))) = omega (arith, ap length e, ap length split, ap length (sym f ∙ g), length-append (word i) (0 ∷ word r)) in
-      ap (λ k. getD rows k 0) place ∙ told .tells (1 ∷ a) (b ++ (0 ∷ word r)) t (e ∙ ap (λ z. 1 ∷ z) split) (stops-more b (word r) s) (omega arith);
-}

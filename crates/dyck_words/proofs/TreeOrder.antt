@@ -1,13 +1,13 @@
 -- The order of trees is a strict total order on the trees of one size.
 -- Assumes nothing.
 use mathlib.Core.Path.{_≡_, refl, sym, _∙_, ap, ap₂}
-use mathlib.Core.Logic.{_⊎_, inl, inr, ⊎-map}
+use mathlib.Core.Logic.{_⊎_, inl, inr, ⊎-elim, ⊎-map}
 use mathlib.Core.Bool.{true, _&&_, _||_, false≢true}
 use Prim.Native.Nat.{_<_}
 use native.Mathlib.Omega.{arith}
 use lib.Dec.{ltb, eqb}
 use borrow.Author.Tests.{ltb-true, lt-ltb, eqb-true, eq-eqb}
-use Rattle.listings.proofs.Bools.{and-true, and-makes, or-cases, or-left, or-right}
+use Rattle.basics.proofs.Bools.{and-true, and-makes, or-cases, or-left, or-right}
 use Rattle.listings.proofs.OrderFacts.{trichotomy}
 use Rattle.dyck_words.specs.Trees.{Tree, leaf, node, size, sameTree, treeBefore}
 
@@ -31,19 +31,19 @@ pub data Earlier (i r j s : Tree) : Type 0 where
   inside : size i ≡ size j → treeBefore i j ≡ true → Earlier i r j s
   rest : i ≡ j → treeBefore r s ≡ true → Earlier i r j s
 
-pub before-cases : (i r j s : Tree) → treeBefore (node i r) (node j s) ≡ true → Earlier i r j s
-unfolding treeBefore
-before-cases i r j s e = by-size (or-cases (ltb (size i) (size j)) (eqb (size i) (size j) && (treeBefore i j || (sameTree i j && treeBefore r s))) e)
-  where
-    by-trees : size i ≡ size j → (treeBefore i j ≡ true) ⊎ ((sameTree i j && treeBefore r s) ≡ true) → Earlier i r j s
-    by-trees p (inl q) = inside p q
-    by-trees p (inr q) = let (a, b) = and-true (sameTree i j) (treeBefore r s) q in rest (sameTree-eq i j a) b
+earlier-elim : {C : Type 0} {i r j s : Tree} → (size i < size j → C) → (size i ≡ size j → treeBefore i j ≡ true → C) → (i ≡ j → treeBefore r s ≡ true → C) → Earlier i r j s → C
+earlier-elim f g h (smaller p) = f p
+earlier-elim f g h (inside p q) = g p q
+earlier-elim f g h (rest p q) = h p q
 
-    by-size : (ltb (size i) (size j) ≡ true) ⊎ ((eqb (size i) (size j) && (treeBefore i j || (sameTree i j && treeBefore r s))) ≡ true) → Earlier i r j s
-    by-size (inl p) = smaller (ltb-true (size i) (size j) p)
-    by-size (inr p) =
-        let (a, b) = and-true (eqb (size i) (size j)) (treeBefore i j || (sameTree i j && treeBefore r s)) p in
-        by-trees (eqb-true (size i) (size j) a) (or-cases (treeBefore i j) (sameTree i j && treeBefore r s) b)
+before-cases : (i r j s : Tree) → treeBefore (node i r) (node j s) ≡ true → Earlier i r j s
+unfolding treeBefore
+before-cases i r j s e = ⊎-elim
+    (λ p. smaller (ltb-true (size i) (size j) p))
+    (λ p.
+    let (as-large, either) = and-true (eqb (size i) (size j)) (treeBefore i j || (sameTree i j && treeBefore r s)) p in
+    ⊎-elim (λ q. inside (eqb-true (size i) (size j) as-large) q) (λ q. let (a, b) = and-true (sameTree i j) (treeBefore r s) q in rest (sameTree-eq i j a) b) (or-cases (treeBefore i j) (sameTree i j && treeBefore r s) either))
+    (or-cases (ltb (size i) (size j)) (eqb (size i) (size j) && (treeBefore i j || (sameTree i j && treeBefore r s))) e)
 
 pub before-makes : {i r j s : Tree} → Earlier i r j s → treeBefore (node i r) (node j s) ≡ true
 unfolding treeBefore
@@ -56,12 +56,7 @@ before-makes {i} {r} {j} {s} (rest p q) =
 pub before-irreflexive : (t : Tree) → treeBefore t t ≡ true → ⊥
 unfolding treeBefore
 before-irreflexive leaf e = false≢true e
-before-irreflexive (node i r) e = step (before-irreflexive i) (before-irreflexive r) (before-cases i r i r e)
-  where
-    step : (treeBefore i i ≡ true → ⊥) → (treeBefore r r ≡ true → ⊥) → Earlier i r i r → ⊥
-    step not-i not-r (smaller h) = omega arith
-    step not-i not-r (inside p q) = not-i q
-    step not-i not-r (rest p q) = not-r q
+before-irreflexive (node i r) e = earlier-elim (λ h. omega arith) (λ p q. before-irreflexive i q) (λ p q. before-irreflexive r q) (before-cases i r i r e)
 
 pub before-transitive : (t u v : Tree) → treeBefore t u ≡ true → treeBefore u v ≡ true → treeBefore t v ≡ true
 unfolding treeBefore
@@ -69,41 +64,26 @@ before-transitive leaf u v e f = absurd (false≢true e)
 before-transitive (node i r) leaf v e f = absurd (false≢true e)
 before-transitive (node i r) (node j s) leaf e f = absurd (false≢true f)
 before-transitive (node i r) (node j s) (node k t) e f =
-    before-makes (step (before-transitive i j k) (before-transitive r s t) (before-cases i r j s e) (before-cases j s k t f))
-  where
-    step : (treeBefore i j ≡ true → treeBefore j k ≡ true → treeBefore i k ≡ true) → (treeBefore r s ≡ true → treeBefore s t ≡ true → treeBefore r t ≡ true)
-        → Earlier i r j s → Earlier j s k t → Earlier i r k t
-    step insides rests (smaller h) (smaller h′) = smaller (omega arith)
-    step insides rests (smaller h) (inside p q) = smaller (omega arith)
-    step insides rests (smaller h) (rest p q) = smaller (rw (← p) h)
-    step insides rests (inside p q) (smaller h) = smaller (omega arith)
-    step insides rests (inside p q) (inside p′ q′) = inside (p ∙ p′) (insides q q′)
-    step insides rests (inside p q) (rest p′ q′) = inside (p ∙ ap size p′) (rw (← p′) q)
-    step insides rests (rest p q) (smaller h) = smaller (rw p h)
-    step insides rests (rest p q) (inside p′ q′) = inside (ap size p ∙ p′) (rw p q′)
-    step insides rests (rest p q) (rest p′ q′) = rest (p ∙ p′) (rests q q′)
-
--- how two trees stand to each other
-abbrev Compared : Tree → Tree → Type 0
-Compared t u = (treeBefore t u ≡ true) ⊎ ((t ≡ u) ⊎ (treeBefore u t ≡ true))
+    let after = before-cases j s k t f in
+    before-makes {r = r} {s = t} (earlier-elim
+    (λ h. earlier-elim (λ h′. smaller (omega arith)) (λ p q. smaller (omega arith)) (λ p q. smaller (rw (← p) h)) after)
+    (λ p q. earlier-elim (λ h. smaller (omega arith)) (λ p′ q′. inside (p ∙ p′) (before-transitive i j k q q′)) (λ p′ q′. inside (p ∙ ap size p′) (rw (← p′) q)) after)
+    (λ p q. earlier-elim (λ h. smaller (rw p h)) (λ p′ q′. inside (ap size p ∙ p′) (rw p q′)) (λ p′ q′. rest (p ∙ p′) (before-transitive r s t q q′)) after)
+    (before-cases i r j s e))
 
 pub before-total : (t u : Tree) → size t ≡ size u → (treeBefore t u ≡ true) ⊎ ((t ≡ u) ⊎ (treeBefore u t ≡ true))
 unfolding size
 before-total leaf leaf h = inr (inl refl)
 before-total leaf (node j s) h = absurd (omega arith)
 before-total (node i r) leaf h = absurd (omega arith)
-before-total (node i r) (node j s) h = by-size (before-total i j) (before-total r s) (trichotomy (size i) (size j))
-  where
-    by-rest : i ≡ j → Compared r s → Compared (node i r) (node j s)
-    by-rest p = ⊎-map (λ q. before-makes (rest p q)) (⊎-map (λ q. ap₂ node p q) (λ q. before-makes (rest (sym p) q)))
-
-    by-inside : size i ≡ size j → (size r ≡ size s → Compared r s) → Compared i j → Compared (node i r) (node j s)
-    by-inside p rests (inl q) = inl (before-makes (inside p q))
-    by-inside p rests (inr (inl q)) = by-rest q (rests (omega arith))
-    by-inside p rests (inr (inr q)) = inr (inr (before-makes (inside (sym p) q)))
-
-    by-size : (size i ≡ size j → Compared i j) → (size r ≡ size s → Compared r s) → (size i < size j) ⊎ ((size i ≡ size j) ⊎ (size j < size i))
-        → Compared (node i r) (node j s)
-    by-size insides rests (inl p) = inl (before-makes (smaller p))
-    by-size insides rests (inr (inl p)) = by-inside p rests (insides p)
-    by-size insides rests (inr (inr p)) = inr (inr (before-makes (smaller p)))
+before-total (node i r) (node j s) h = ⊎-elim
+    (λ p. inl (before-makes (smaller p)))
+    (⊎-elim
+    (λ p. ⊎-elim
+    (λ q. inl (before-makes (inside p q)))
+    (⊎-elim
+    (λ q. ⊎-map (λ d. before-makes (rest q d)) (⊎-map (λ d. ap₂ node q d) (λ d. before-makes (rest (sym q) d))) (before-total r s (omega arith)))
+    (λ q. inr (inr (before-makes (inside (sym p) q)))))
+    (before-total i j p))
+    (λ p. inr (inr (before-makes (smaller p)))))
+    (trichotomy (size i) (size j))

@@ -3,13 +3,14 @@
 use mathlib.Core.List.{List, [], _∷_, map, flatMap}
 use Prim.Native.Nat.{ℕ, zero, suc, _-_}
 use lib.ListN.{getD}
-use Rattle.numbers.specs.Sums.{range}
+use Rattle.basics.specs.Sums.{range}
 use Rattle.listings.specs.Bytes.{Bytes}
+use Rattle.listings.specs.Choices.{byChoice}
 use Rattle.dyck_words.specs.Trees.{Tree, leaf, node, word}
 
 -- the product rule: every inside with every rest, the rest running fastest
 unfoldable pub nodes : List Tree → List Tree → List Tree
-nodes is rs = flatMap (λ i. map (node i) rs) is
+nodes is rs = byChoice is (λ i. rs) node
 
 -- the trees of n, n - 1, .., 0 branches: the inside has j branches, and the rest the others
 unfoldable pub treesDown : ℕ → List (List Tree)

@@ -41,7 +41,7 @@ pub fn first(n: u64, object: &mut [u8])
     requires { ⌜ length (now object) ≡ 2 * n ⌝ }
     ensures { λ _. ⌜ First (dyckWords n) (now (object .exit)) ⌝ }
 {
-    stepping::write_first(object);
+    stepping::start_over(true, object);
 }
 
 // The latest: 1 .. 1 0 .. 0.
@@ -49,23 +49,23 @@ pub fn last(n: u64, object: &mut [u8])
     requires { ⌜ length (now object) ≡ 2 * n ⌝ }
     ensures { λ _. ⌜ Last (dyckWords n) (now (object .exit)) ⌝ }
 {
-    stepping::write_last(object);
+    stepping::start_over(false, object);
 }
 
 // The word just after.
 pub fn next(n: u64, object: &mut [u8]) -> Step
+    requires { ⌜ n ≤ branches ⌝ }
     requires { ⌜ isDyckWord n (now object) ≡ true ⌝ }
     ensures { λ r. ⌜ _≡_ {A = Said} (stepAs r, now (object .exit)) (act NEXT dyckBefore (dyckWords n) (now (object .entry))) ⌝ }
 {
-    let rows = row_lengths(object);
-    stepping::step_on(object, &rows, 0)
+    stepping::step_word(true, n, object)
 }
 
 // The word just before.
 pub fn previous(n: u64, object: &mut [u8]) -> Step
+    requires { ⌜ n ≤ branches ⌝ }
     requires { ⌜ isDyckWord n (now object) ≡ true ⌝ }
     ensures { λ r. ⌜ _≡_ {A = Said} (stepAs r, now (object .exit)) (act PREVIOUS dyckBefore (dyckWords n) (now (object .entry))) ⌝ }
 {
-    let rows = row_lengths(object);
-    stepping::step_back(object, &rows, 0)
+    stepping::step_word(false, n, object)
 }

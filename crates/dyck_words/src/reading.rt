@@ -2,7 +2,7 @@
 // left fall. And a table of how long each row is, so that steps and ranks need not read an inside again at each level.
 
 ghost use mathlib.Core.Path.{_≡_};
-ghost use Prim.Native.Nat.{ℕ, _+_, _≤_, _<_, _^_};
+ghost use Prim.Native.Nat.{ℕ, _≤_, _<_};
 ghost use lib.ListN.{length, getD};
 ghost use Rattle.numbers.specs.Limits.{longestObject};
 ghost use Rattle.dyck_words.specs.inner.Reading.{RowRead, BranchRead, RowHere, Told};
@@ -70,7 +70,8 @@ fn row_here(first: u8, rows: &[u8; ROWS], d: usize) -> u8
 // The table: for each place of a word that an object may be, by how many bytes are left there, how long the row is that starts there. One pass
 // from the right.
 pub fn row_lengths(object: &[u8]) -> [u8; ROWS]
-    ensures { λ r. ⌜ Told (now (object .entry)) 0 r ⌝ }
+    requires { ⌜ length (now object) ≤ longestObject ⌝ }
+    ensures { λ r. ⌜ Told (now (object .entry)) (length (now (object .entry))) r ⌝ }
 {
     let mut rows = [0u8; ROWS];
     let mut d = 0;
@@ -85,19 +86,11 @@ pub fn row_lengths(object: &[u8]) -> [u8; ROWS]
     rows
 }
 
-// How long the inside is of a word that isn't empty, with after more bytes behind it. The table has it; only in a longer word, which no family
-// has, is its row read.
-pub fn inside_len(object: &[u8], rows: &[u8; ROWS], after: usize) -> usize
-    requires { ⌜ (0 < length (now object)) × (after + length (now object) < 2 ^ 64) ⌝ }
-    requires { ⌜ Told (now object) after (now rows) ⌝ }
+// How long the inside is of a word that isn't empty, with left bytes from its start on: the table has it.
+pub fn inside_len(object: &[u8], rows: &[u8; ROWS], left: usize) -> usize
+    requires { ⌜ (0 < length (now object)) × (length (now object) ≤ left) × (left ≤ longestObject) ⌝ }
+    requires { ⌜ Told (now object) left (now rows) ⌝ }
     ensures { λ r. ⌜ ((i u : Tree) → now (object .entry) ≡ word (node i u) → r ≡ length (word i)) ⌝ }
 {
-    let left = after + object.len() - 1;
-    if left <= LONGEST_OBJECT {
-        return rows[left] as usize;
-    }
-    let Read::To(end) = row(object, 1) else {
-        return 0;
-    };
-    end - 1
+    rows[left - 1] as usize
 }

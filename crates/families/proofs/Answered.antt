@@ -12,7 +12,8 @@ use Rattle.listings.specs.Places.{At}
 use Rattle.listings.specs.Calls.{Call, COUNT, FIRST, LAST, NEXT, PREVIOUS, RANK, UNRANK, REFUSED, COUNTED, RANKED, WRITTEN, STEPPED, END, Said, firstNo, judged, backward, stepped, act}
 use Rattle.listings.proofs.PlaceRules.{at-below, at-exists}
 use Rattle.listings.proofs.Standing.{getElem-none}
-use Rattle.listings.proofs.Stepping.{place-here, at-rank, stepped-on, stepped-back, neighbours-differ}
+use Rattle.listings.proofs.Ranks.{at-rank}
+use Rattle.listings.proofs.Stepping.{place-here, stepped-on, stepped-back, neighbours-differ}
 use Rattle.listings.proofs.Walks.{passes}
 use Rattle.families.specs.declared.Family.{Family}
 use Rattle.families.specs.Table.{Lent}

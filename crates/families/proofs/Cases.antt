@@ -2,30 +2,30 @@
 -- Assumes nothing.
 use mathlib.Core.Path.{refl}
 use mathlib.Core.List.{flatMap}
-use Rattle.numbers.specs.Sums.{total, range}
+use Rattle.basics.specs.Sums.{total, range}
 use Rattle.numbers.specs.Numbers.{oneLess, lettersFrom}
 use Rattle.listings.specs.Bytes.{same}
 use Rattle.listings.specs.Orders.{lexBefore, colexBefore}
 use Rattle.listings.specs.Places.{countBefore}
-use Rattle.listings.specs.Calls.{orElse, firstNo, judged, placeOf, onward, backward, stepped, act}
+use Rattle.listings.specs.Calls.{firstNo, judged, placeOf, onward, backward, stepped, act}
 use Rattle.subsets.specs.Objects.{climbs, isSubset}
 use Rattle.subsets.specs.Listing.{subsets}
 use Rattle.anagrams.specs.Objects.{occurrences, tallies, isAnagram}
 use Rattle.anagrams.specs.Listing.{words, anagrams}
-use Rattle.set_partitions.specs.Objects.{opens, isSetPartition, keyOf, keys, setPartitionBefore}
-use Rattle.set_partitions.specs.Listing.{keysInOrder, withKey, setPartitions}
+use Rattle.set_partitions.specs.Objects.{opens, isSetPartition, keys, setPartitionBefore}
+use Rattle.set_partitions.specs.Listing.{keysInOrder, othersIn, blockOf, setPartitions}
 use Rattle.integer_partitions.specs.Objects.{descends, isIntegerPartition}
 use Rattle.integer_partitions.specs.Listing.{integerPartitions}
 use Rattle.dyck_words.specs.Objects.{balancedFrom, isDyckWord}
 use Rattle.dyck_words.specs.Trees.{size, word, sameTree, treeBefore, join, openRows, parse, dyckBefore}
 use Rattle.dyck_words.specs.Listing.{nodes, treesDown, trees, dyckWords}
-use Rattle.families.specs.Table.{noCounts, subsetRow, anagramRow, permutationRow, setPartitionRow, integerPartitionRow, dyckWordRow, table}
+use Rattle.families.specs.Table.{noCounts}
 use Rattle.families.specs.Families.{row, isKind, inTable, floorFits, listsFit, askedOfAll, allYes, allowed, objectLength, isObject, comesBefore, listing, countOf, rankOf}
 use Rattle.families.specs.Questions.{asked, isIn, put, rankGiven, opening, closingFor, refusal}
 use Rattle.families.specs.Calls.{respond}
 use Rattle.families.specs.Cases.{CasesHold, cases}
 
 pub cases-hold : CasesHold cases
-unfolding respond refusal opening closingFor put isIn asked rankGiven firstNo orElse judged act placeOf onward backward stepped countBefore same lexBefore colexBefore noCounts subsetRow anagramRow permutationRow setPartitionRow integerPartitionRow dyckWordRow table row isKind inTable floorFits listsFit askedOfAll allYes allowed objectLength isObject comesBefore listing countOf rankOf flatMap total range oneLess lettersFrom climbs isSubset subsets occurrences tallies isAnagram words anagrams opens isSetPartition keyOf keys setPartitionBefore keysInOrder withKey setPartitions descends isIntegerPartition integerPartitions balancedFrom isDyckWord size word sameTree treeBefore join openRows parse dyckBefore nodes treesDown trees dyckWords
+unfolding respond refusal opening closingFor put isIn asked rankGiven firstNo judged act placeOf onward backward stepped countBefore same lexBefore colexBefore noCounts row isKind inTable floorFits listsFit askedOfAll allYes allowed objectLength isObject comesBefore listing countOf rankOf flatMap total range oneLess lettersFrom climbs isSubset subsets occurrences tallies isAnagram words anagrams opens isSetPartition keys setPartitionBefore keysInOrder othersIn blockOf setPartitions descends isIntegerPartition integerPartitions balancedFrom isDyckWord size word sameTree treeBefore join openRows parse dyckBefore nodes treesDown trees dyckWords
 cases-hold =
     ((refl, tt), ((refl, (refl, tt)), ((refl, (refl, tt)), ((refl, tt), ((refl, tt), ((refl, tt), ((refl, (refl, (refl, tt))), ((refl, tt), ((refl, tt), ((refl, (refl, tt)), ((refl, (refl, tt)), ((refl, tt), tt))))))))))))

@@ -3,20 +3,19 @@
 use mathlib.Core.Path.{_≡_, refl, sym, _∙_, subst}
 use mathlib.Core.Bool.{Bool, true, _&&_, _||_}
 use mathlib.Core.Logic.{⊎-elim}
-use Prim.Native.Nat.{ℕ, zero, suc, _*_, _≤_, _<_, min}
-use native.Mathlib.Nat.{zero-mul, suc-mul, min-eq-left, min-eq-right}
+use Prim.Native.Nat.{ℕ, zero, suc, _*_, _≤_, _<_}
+use native.Mathlib.Nat.{zero-mul, suc-mul}
 use native.Mathlib.Omega.{arith}
-use native.Mathlib.Decide.{decLe}
 use lib.Dec.{leb, ltb, eqb}
 use lib.ListN.{length, getD}
 use borrow.Author.Tests.{leb-true, ltb-true, eqb-true, ne-eqb, lt-ltb, lt-leb}
 use Rattle.numbers.specs.Limits.{places, longestObject}
-use Rattle.numbers.specs.Sums.{total}
+use Rattle.basics.specs.Sums.{total}
 use Rattle.listings.specs.Bytes.{Bytes}
 use Rattle.listings.specs.Rows.{Row}
-use Rattle.listings.proofs.Bools.{and-true, or-cases}
+use Rattle.basics.proofs.Bools.{and-true, or-cases}
 use Rattle.families.specs.declared.Family.{Family}
-use Rattle.families.specs.Table.{Lent, subsetRow, anagramRow, permutationRow, setPartitionRow, integerPartitionRow, dyckWordRow, noRow, table, lastKind}
+use Rattle.families.specs.Table.{Lent, noRow, table, lastKind}
 use Rattle.families.specs.Families.{row, isKind, inTable, allowed, objectLength, isObject, comesBefore, listing, countOf}
 use Rattle.families.specs.inner.Bounds.{mostN, mostK}
 use Rattle.families.proofs.FamilyFacts.{lawful, object-allowed, bounded, fitting, count-is, has-object, short}
@@ -105,7 +104,6 @@ zero-most zero = refl
 zero-most (suc k) = rw (ne-eqb (suc k) 0 (λ e. omega arith), lt-leb (suc k) 0 (omega arith))
 
 bounds-at : (kind : ℕ) (f : Family) (b : Lent) → 1 ≤ kind → kind ≤ lastKind → rowAt kind f b .inBounds ≡ (leb (f .n) (mostN kind) && leb (f .k) (mostK kind))
-unfolding table subsetRow anagramRow permutationRow setPartitionRow integerPartitionRow dyckWordRow
 bounds-at zero f b low high = absurd (omega arith)
 bounds-at (suc zero) f b low high = refl
 bounds-at (suc (suc zero)) f b low high = rw (zero-most (f .k))
@@ -124,13 +122,11 @@ two-limits f b e =
 -- the letters of an anagram are as many as n says, and their counts sum to no more than the places
 module _ {f : Family} {b : Lent} (t : Handed f b (rowAt 2 f b)) where
   pub letters-fit : length (b .counts) ≤ longestObject
-  unfolding table anagramRow
   letters-fit =
       let many = and-true (eqb (length (b .counts)) (f .n)) (leb (total (b .counts)) places) (t .fits) .0 in
       omega (arith, n-within (f .n) places (eqb (f .k) 0) (t .bounds), eqb-true (length (b .counts)) (f .n) many)
 
   pub sum-fits : leb (total (b .counts)) places ≡ true
-  unfolding table anagramRow
   sum-fits = and-true (eqb (length (b .counts)) (f .n)) (leb (total (b .counts)) places) (t .fits) .1
 
 -- the objects have m at the least, and "none when k = 0 < n"
@@ -143,11 +139,3 @@ shared n m k e =
 pub some-parts : (k f : ℕ) → 1 ≤ f → ltb 0 (k * f) ≡ ltb 0 k
 some-parts zero f h = rw zero-mul
 some-parts (suc k) f h = rw (lt-ltb 0 (suc k * f) (omega (arith, suc-mul k f)), lt-ltb 0 (suc k) (omega arith))
-
--- a sum that is counted only to just above a limit is within the limit where the whole sum is
-pub to-limit : (v m : ℕ) → leb (min v (suc m)) m ≡ leb v m
-to-limit v m =
-    elim (decLe v m) [
-      | yes h ↦ rw (min-eq-left {n = v} {m = suc m} (omega arith))
-      | no h ↦ rw (min-eq-right {n = suc m} {m = v} (omega arith), lt-leb (suc m) m (omega arith), lt-leb v m (omega arith))
-    ]

@@ -11,12 +11,12 @@ use lib.Dec.{leb, eqb}
 use lib.ListN.{length}
 use borrow.Author.Tests.{ltb-true, ltb-false, eqb-true, le-leb, lt-leb, ne-eqb}
 use Rattle.numbers.specs.Limits.{places}
-use Rattle.numbers.specs.Sums.{total}
+use Rattle.basics.specs.Sums.{total}
 use Rattle.listings.specs.Bytes.{Bytes}
 use Rattle.listings.specs.Listings.{Listing, Ascending, more}
-use Rattle.listings.proofs.Bools.{and-true, true-or-false}
+use Rattle.basics.proofs.Bools.{and-true, true-or-false}
 use Rattle.families.specs.declared.Family.{Family}
-use Rattle.families.specs.Table.{Lent, subsetRow, anagramRow, permutationRow, setPartitionRow, integerPartitionRow, dyckWordRow, table}
+use Rattle.families.specs.Table.{Lent}
 use Rattle.families.specs.Families.{row, listsFit, allowed, objectLength, listing, countOf}
 use Rattle.families.proofs.RowsHold.{with-counts}
 use Rattle.families.proofs.FamilyFacts.{listed, lawful, not-allowed, has-object, fitting, floor-positive}
@@ -53,7 +53,7 @@ none-left [] e = refl
 none-left (c ∷ cs) e = absurd (omega arith)
 
 said-empty : (f : Family) (b : Lent) → listsFit f b ≡ true → EmptyAlone f → Row-says f b 0 true
-unfolding row table subsetRow anagramRow permutationRow setPartitionRow integerPartitionRow dyckWordRow
+unfolding row
 said-empty f b fits (subsets e k) = record { size = rw (e, k); has = rw (e, k) (le-leb 0 (f .n) (omega arith)) }
 said-empty f b fits (anagrams e n) =
     let counts = and-true (eqb (length (b .counts)) (f .n)) (leb (total (b .counts)) places) (sym (with-counts f b e) ∙ fits) .0 in
@@ -85,7 +85,7 @@ empty-alone f b a e =
 
 -- and a family that the paper says has none has none
 said-none : (f : Family) (b : Lent) → allowed f b ≡ true → NoObject f → row f b .hasObject ≡ false
-unfolding row table subsetRow setPartitionRow integerPartitionRow
+unfolding row
 said-none f b a (subsets e h) = rw e (lt-leb (f .k) (f .n) h)
 said-none f b a (set-partitions e h) = rw (e, lt-leb (f .k) (f .n) h)
 said-none f b a (integer-partitions e h) =

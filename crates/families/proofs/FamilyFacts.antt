@@ -15,7 +15,7 @@ use Rattle.listings.specs.Bytes.{Bytes}
 use Rattle.listings.specs.Calls.{firstNo}
 use Rattle.listings.specs.Listings.{Listing, StrictTotal}
 use Rattle.listings.specs.Places.{At}
-use Rattle.listings.proofs.Bools.{and-true, true-or-false}
+use Rattle.basics.proofs.Bools.{and-true, true-or-false}
 use Rattle.listings.proofs.Uniqueness.{unique}
 use Rattle.listings.proofs.Ranks.{place-is-rank}
 use Rattle.listings.proofs.Demand.{Lawful}

@@ -2,7 +2,7 @@
 -- string alone, whatever the floor. Assumes nothing.
 use mathlib.Core.Path.{_≡_, refl}
 use mathlib.Core.Bool.{Bool, true, false, cond, _&&_, _||_}
-use mathlib.Core.List.{List, [], _∷_}
+use mathlib.Core.List.{[], _∷_}
 use Prim.Native.Nat.{ℕ}
 use native.Mathlib.Nat.{mul-one}
 use lib.Dec.{leb, ltb, eqb}
@@ -14,7 +14,7 @@ use Rattle.integer_partitions.specs.Objects.{isIntegerPartition, atLeast, integ
 use Rattle.integer_partitions.specs.Listing.{integerPartitions}
 use Rattle.integer_partitions.proofs.Floors.{floor-keeps}
 use Rattle.families.specs.declared.Family.{Family}
-use Rattle.families.specs.Table.{Lent, plainFamily, noCounts, integerPartitionRow, table}
+use Rattle.families.specs.Table.{Lent, plainFamily, noCounts, integerPartitionRow}
 use Rattle.families.specs.Families.{row, isKind, inTable, floorFits, listsFit, askedOfAll, allYes, allowed, listing}
 use Rattle.families.proofs.FamilyFacts.{floor-positive}
 use Rattle.families.proofs.Dispatch.{handed}
@@ -22,12 +22,11 @@ use Rattle.families.proofs.Edges.{empty-alone, integer-partitions}
 
 -- the table allows the family of old where it allows one with a floor
 old-allowed : (n k : ℕ) (b : Lent) → (leb n places && leb k places) ≡ true → noCounts b ≡ true → allowed (plainFamily 5 n k) b ≡ true
-unfolding allowed allYes askedOfAll isKind inTable floorFits listsFit row table integerPartitionRow
+unfolding allowed allYes askedOfAll isKind inTable floorFits listsFit row
 old-allowed n k b bounds fits = rw (bounds, fits)
 
 -- "a walk lists the splits that respect the floor and no others", "The order is unchanged"
 pub floor-filters : (f : Family) (b : Lent) → f .kind ≡ 5 → allowed f b ≡ true → listing f b ≡ kept (atLeast (f .floor)) (listing (plainFamily 5 (f .n) (f .k)) b)
-unfolding table integerPartitionRow
 floor-filters f b e a =
     let t = handed 5 f b e a in
     let old = handed 5 (plainFamily 5 (f .n) (f .k)) b refl (old-allowed (f .n) (f .k) b (t .bounds) (t .fits)) in
@@ -58,7 +57,7 @@ rowOfOld n k b =
 
 -- and the row of floor 1 is that of old: objects, order, listing, count, and whether there is one
 pub floor-one : (f : Family) (b : Lent) → f .floor ≡ 1 → integerPartitionRow f b ≡ rowOfOld (f .n) (f .k) b
-unfolding integerPartitionRow partitionsOf
+unfolding partitionsOf
 floor-one f b one = rw (one, mul-one (f .k))
 
 -- "the empty split remains the only object for n = k = 0"

@@ -16,7 +16,7 @@ use denote.Enum.Declared.{tagOf}
 use Rattle.numbers.specs.Limits.{longestObject}
 use Rattle.listings.specs.Bytes.{Bytes}
 use Rattle.listings.specs.Places.{At, First}
-use Rattle.listings.specs.Calls.{COUNT, FIRST, NEXT, Answer, REFUSED, COUNTED, MEASURED, WRITTEN, STEPPED, Said, orElse, firstNo, judged, onward, stepped, act}
+use Rattle.listings.specs.Calls.{COUNT, FIRST, NEXT, Answer, REFUSED, COUNTED, MEASURED, WRITTEN, STEPPED, Said, firstNo, judged, onward, stepped, act}
 use Rattle.listings.proofs.PlaceRules.{at-member, at-below}
 use Rattle.listings.proofs.Standing.{getElem-some}
 use Rattle.listings.proofs.Stepping.{place-here, stepped-some, stepped-none}
@@ -100,7 +100,7 @@ module _ (f : Family) (b : Lent) where
 
   -- the questions about the family pass where it is allowed and has an object
   pub opens : allowed f b ≡ true → 0 < countOf f b → firstNo (opening FIRST f b) ≡ none
-  unfolding opening put asked isIn firstNo orElse
+  unfolding opening put asked isIn firstNo
   opens a h = after-pass (askedOfAll f b) (put FIRST 4 (ltb 0 (countOf f b)) ∷ []) (asked-allowed f b a) ∙ rw (lt-ltb 0 (countOf f b) h)
 
   -- NEXT at a place of the listing is the place behind it

@@ -9,8 +9,8 @@ use lib.Dec.{eqb}
 use lib.ListN.{length}
 use borrow.Author.Tests.{ltb-true, eqb-true, lt-ltb, eq-eqb}
 use Rattle.listings.specs.Bytes.{Bytes}
-use Rattle.listings.specs.Calls.{Call, COUNT, FIRST, LAST, NEXT, PREVIOUS, RANK, UNRANK, Question, orElse, firstNo}
-use Rattle.listings.proofs.Bools.{and-true}
+use Rattle.listings.specs.Calls.{Call, COUNT, FIRST, LAST, NEXT, PREVIOUS, RANK, UNRANK, Question, firstNo}
+use Rattle.basics.proofs.Bools.{and-true}
 use Rattle.listings.proofs.Demand.{withBuffer, withObject, Asks}
 use Rattle.families.specs.Families.{allYes}
 use Rattle.families.specs.Questions.{asked, isIn, put, rankGiven, closingFor}
@@ -18,11 +18,11 @@ use Rattle.families.specs.Questions.{asked, isIn, put, rankGiven, closin
 -- a question that is answered by yes is passed, and one that is answered by no is the refusal
 
 pub past : (q : Question) (qs : List Question) → q .yes? ≡ true → firstNo (q ∷ qs) ≡ firstNo qs
-unfolding firstNo orElse
+unfolding firstNo
 past q qs e = rw e
 
 pub stop : (q : Question) (qs : List Question) → q .yes? ≡ false → firstNo (q ∷ qs) ≡ some (q .number)
-unfolding firstNo orElse
+unfolding firstNo
 stop q qs e = rw e
 
 pub none-left : firstNo [] ≡ none
@@ -31,8 +31,7 @@ none-left = refl
 
 -- where no question is answered by no, each is answered by yes
 
-passed-first : (t : Bool) (q : ℕ) (later : Option ℕ) → orElse t q later ≡ none → (t ≡ true) × (later ≡ none)
-unfolding orElse
+passed-first : (t : Bool) (q : ℕ) (later : Option ℕ) → cond t later (some q) ≡ none → (t ≡ true) × (later ≡ none)
 passed-first true q later e = (refl, e)
 passed-first false q later e = absurd (Option·some-ne-none q e)
 
@@ -55,8 +54,8 @@ none-no (p ∷ ps) e =
 abbrev pub numbersOf : List Question → List ℕ
 numbersOf qs = map (λ q. q .number) qs
 
-among : (t : Bool) (q p : ℕ) (later : Option ℕ) (ps : List ℕ) → (later ≡ some q → isIn q ps ≡ true) → orElse t p later ≡ some q → isIn q (p ∷ ps) ≡ true
-unfolding orElse isIn
+among : (t : Bool) (q p : ℕ) (later : Option ℕ) (ps : List ℕ) → (later ≡ some q → isIn q ps ≡ true) → cond t later (some p) ≡ some q → isIn q (p ∷ ps) ≡ true
+unfolding isIn
 among true q p later ps h e = rw (h e) (or-true (eqb q p))
   where
     or-true : (t : Bool) → (t || true) ≡ true
@@ -71,13 +70,11 @@ no-was-put q (p ∷ ps) e = among (p .yes?) q (p .number) (firstNo ps) (numbersO
 
 -- two lists of questions, one behind the other
 
-passed-over : (t : Bool) (q : ℕ) (a : Option ℕ) {b d : Option ℕ} → orElse t q a ≡ none → (a ≡ none → b ≡ d) → orElse t q b ≡ d
-unfolding orElse
+passed-over : (t : Bool) (q : ℕ) (a : Option ℕ) {b d : Option ℕ} → cond t a (some q) ≡ none → (a ≡ none → b ≡ d) → cond t b (some q) ≡ d
 passed-over true q a e h = h e
 passed-over false q a e h = absurd (Option·some-ne-none q e)
 
-or-else-append : (t : Bool) (q : ℕ) (a b : Option ℕ) {d : Option ℕ} → orElse t q a ≡ d → (a ≡ d → b ≡ d) → orElse t q b ≡ d
-unfolding orElse
+or-else-append : (t : Bool) (q : ℕ) (a b : Option ℕ) {d : Option ℕ} → cond t a (some q) ≡ d → (a ≡ d → b ≡ d) → cond t b (some q) ≡ d
 or-else-append true q a b e h = h e
 or-else-append false q a b e h = e
 
@@ -164,7 +161,7 @@ module _ (c : Call) (count long size : ℕ) (holds : Bool) (pass : firstNo (clos
 -- and which calls pass them
 pub closing-passes : (c : Call) (count long size : ℕ) (holds : Bool) → (isIn 5 (asked c) ≡ true → count < 2 ^ 64) → size ≡ long → (isIn 7 (asked c) ≡ true → holds ≡ true)
     → (isIn 8 (asked c) ≡ true → rankGiven c < count) → firstNo (closingFor c count long size holds) ≡ none
-unfolding closingFor put asked isIn firstNo orElse rankGiven
+unfolding closingFor put asked isIn firstNo rankGiven
 closing-passes COUNT count long size holds fits sized object below = rw (lt-ltb count (2 ^ 64) (fits refl))
 closing-passes FIRST count long size holds fits sized object below = rw (eq-eqb size long sized)
 closing-passes LAST count long size holds fits sized object below = rw (eq-eqb size long sized)

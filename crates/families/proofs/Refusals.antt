@@ -10,7 +10,7 @@ use native.Mathlib.Omega.{arith}
 use lib.Dec.{leb, eqb}
 use borrow.Author.Tests.{leb-true, eqb-true}
 use Rattle.listings.specs.Calls.{Call, firstNo}
-use Rattle.listings.proofs.Bools.{and-true, or-cases}
+use Rattle.basics.proofs.Bools.{and-true, or-cases}
 use Rattle.families.specs.declared.Family.{Family}
 use Rattle.families.specs.Table.{Lent}
 use Rattle.families.specs.Families.{askedOfAll}

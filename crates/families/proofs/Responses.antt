@@ -10,7 +10,7 @@ use lib.ListN.{length, getD}
 use borrow.Author.Tests.{lt-ltb, le-ltb}
 use Rattle.listings.specs.Bytes.{Bytes}
 use Rattle.listings.specs.Places.{At, First, Last}
-use Rattle.listings.specs.Calls.{Call, COUNT, FIRST, LAST, UNRANK, Said, REFUSED, COUNTED, WRITTEN, orElse, firstNo, judged, act}
+use Rattle.listings.specs.Calls.{Call, COUNT, FIRST, LAST, UNRANK, Said, REFUSED, COUNTED, WRITTEN, firstNo, judged, act}
 use Rattle.listings.proofs.PlaceRules.{at-below}
 use Rattle.listings.proofs.Standing.{getElem-some}
 use Rattle.families.specs.declared.Family.{Family}
@@ -33,11 +33,11 @@ module _ (f : Family) (b : Lent) (x : Bytes) where
   -- COUNT's questions
 
   opens : firstNo (askedOfAll f b) ≡ none → firstNo (opening COUNT f b) ≡ none
-  unfolding opening put asked isIn firstNo orElse
+  unfolding opening put asked isIn firstNo
   opens e = after-pass (askedOfAll f b) (put COUNT 4 (ltb 0 (countOf f b)) ∷ []) e
 
   closes : firstNo (askedOfAll f b) ≡ none → refusal COUNT f b (length x) (isObject f b x) ≡ firstNo (always 5 (ltb (countOf f b) (2 ^ 64)) ∷ [])
-  unfolding refusal closingFor put asked isIn firstNo rankGiven orElse
+  unfolding refusal closingFor put asked isIn firstNo rankGiven
   closes e = after-pass (opening COUNT f b) (closingFor COUNT (countOf f b) (objectLength f b) (length x) (isObject f b x)) (opens e)
 
   count-passes : firstNo (askedOfAll f b) ≡ none → countOf f b < 2 ^ 64 → refusal COUNT f b (length x) (isObject f b x) ≡ none

@@ -8,7 +8,7 @@ use native.Mathlib.Omega.{arith}
 use lib.Dec.{leb, eqb}
 use lib.ListN.{length, getD}
 use Rattle.numbers.specs.Limits.{places}
-use Rattle.numbers.specs.Sums.{total}
+use Rattle.basics.specs.Sums.{total}
 use Rattle.listings.specs.Bytes.{Bytes}
 use Rattle.listings.specs.Listings.{Listing, Ascending}
 use Rattle.listings.specs.Rows.{Row, RowLaws}
@@ -18,7 +18,7 @@ use Rattle.set_partitions.proofs.Laws as set-partition
 use Rattle.integer_partitions.proofs.Laws as integer-partition
 use Rattle.dyck_words.proofs.Laws as dyck-word
 use Rattle.families.specs.declared.Family.{Family}
-use Rattle.families.specs.Table.{Lent, noCounts, subsetRow, anagramRow, permutationRow, setPartitionRow, integerPartitionRow, dyckWordRow, noRow, table}
+use Rattle.families.specs.Table.{Lent, noCounts, noRow, table}
 use Rattle.families.specs.Families.{row, listsFit}
 
 -- nothing is an object of no kind
@@ -54,7 +54,7 @@ data Rows (b : Lent) : ℕ → List Row → Type 0 where
 
 -- every row is lawful
 lawful-rows : (f : Family) (b : Lent) → Rows b 0 (table f b)
-unfolding table noRow subsetRow anagramRow permutationRow setPartitionRow integerPartitionRow dyckWordRow
+unfolding noRow
 lawful-rows f b =
     more (no-row-laws b) (λ h. refl)
     (more (subset.laws (f .n) (f .k) (noCounts b)) (λ h. refl)
@@ -81,7 +81,7 @@ row-laws f b = laws-at (lawful-rows f b) (f .kind)
 
 -- "the count list n long for kind 2 with a sum of at most 80"
 pub with-counts : (f : Family) (b : Lent) → f .kind ≡ 2 → listsFit f b ≡ (eqb (length (b .counts)) (f .n) && leb (total (b .counts)) places)
-unfolding listsFit row table anagramRow
+unfolding listsFit row
 with-counts f b e = rw e
 
 -- "empty for other kinds"

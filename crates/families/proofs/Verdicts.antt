@@ -8,7 +8,7 @@ use Prim.Native.Nat.{ℕ, _<_, _^_}
 use native.Mathlib.Omega.{arith}
 use lib.Dec.{ltb}
 use borrow.Author.Tests.{not-true, not-false, lt-ltb, ltb-true}
-use Rattle.listings.specs.Calls.{Call, FIRST, LAST, NEXT, PREVIOUS, RANK, UNRANK, Question, orElse, firstNo}
+use Rattle.listings.specs.Calls.{Call, FIRST, LAST, NEXT, PREVIOUS, RANK, UNRANK, Question, firstNo}
 use Rattle.listings.proofs.Demand.{Asks}
 use Rattle.families.specs.declared.Family.{Family}
 use Rattle.families.specs.declared.questions.Verdict.{Verdict}
@@ -39,29 +39,29 @@ is-yes {r} e h = sym e ∙ not-false r h
 -- questions 5 and 8 read off the first no of the two, with others put between
 
 pub too-large : (a b : Bool) → firstNo (always 5 a ∷ always 8 b ∷ []) ≡ some 5 → a ≡ false
-unfolding firstNo orElse
+unfolding firstNo
 too-large false b e = refl
 too-large true false e = absurd (omega (arith, Option·some-injective 8 5 e))
 too-large true true e = absurd (Option·some-ne-none 5 (sym e))
 
 pub beyond : (a b : Bool) → firstNo (always 5 a ∷ always 8 b ∷ []) ≡ some 8 → (a ≡ true) × (b ≡ false)
-unfolding firstNo orElse
+unfolding firstNo
 beyond false b e = absurd (omega (arith, Option·some-injective 5 8 e))
 beyond true false e = (refl, refl)
 beyond true true e = absurd (Option·some-ne-none 8 (sym e))
 
 pub below : (a b : Bool) → firstNo (always 5 a ∷ always 8 b ∷ []) ≡ none → (a ≡ true) × (b ≡ true)
-unfolding firstNo orElse
+unfolding firstNo
 below false b e = absurd (Option·some-ne-none 5 e)
 below true false e = absurd (Option·some-ne-none 8 e)
 below true true e = (refl, refl)
 
 pub between-pass : (p q r s : Question) → p .yes? ≡ true → s .yes? ≡ true → firstNo (p ∷ q ∷ r ∷ s ∷ []) ≡ firstNo (q ∷ r ∷ [])
-unfolding firstNo orElse
+unfolding firstNo
 between-pass p q r s e h = rw (e, h)
 
 pub between-no : (p q r s : Question) → p .yes? ≡ true → s .yes? ≡ false → firstNo (p ∷ q ∷ r ∷ s ∷ []) ≡ firstNo ((q ∷ r ∷ []) ++ (always (s .number) false ∷ []))
-unfolding firstNo orElse
+unfolding firstNo
 between-no p q r s e h = rw (e, h)
 
 module _ (f : Family) (b : Lent) where

@@ -6,7 +6,7 @@ use Prim.Native.Nat.{ℕ, _*_}
 use lib.Dec.{leb, ltb, eqb}
 use lib.ListN.{length, getD}
 use Rattle.numbers.specs.Limits.{places, branches}
-use Rattle.numbers.specs.Sums.{total}
+use Rattle.basics.specs.Sums.{total}
 use Rattle.numbers.specs.Numbers.{choose, multinomialOf, factorialOf, stirlingOf, partsFrom, catalanOf}
 use Rattle.listings.specs.Rows.{Row}
 use Rattle.subsets.specs.Objects.{isSubset, subsetBefore}
@@ -44,7 +44,7 @@ unfoldable pub noCounts : Lent → Bool
 noCounts b = eqb (length (b .counts)) 0
 
 -- 1 sites used: "n, k 0 to 80", "k site numbers from 1 to n, strictly ascending" (SCOPE 1.1); "no object when k > n" (SCOPE 1.b)
-unfoldable pub subsetRow : Family → Lent → Row
+abbrev pub subsetRow : Family → Lent → Row
 subsetRow f b = record {
   inBounds = leb (f .n) places && leb (f .k) places;
   listsFit = noCounts b;
@@ -58,7 +58,7 @@ subsetRow f b = record {
 
 -- 2 hanging: "n letters, 0 to 80; k is 0", "word with letter i exactly as often as count i says" (SCOPE 1.2); "the count list n long .. with a sum of
 -- at most 80" (SCOPE 4.3)
-unfoldable pub anagramRow : Family → Lent → Row
+abbrev pub anagramRow : Family → Lent → Row
 anagramRow f b = record {
   inBounds = leb (f .n) places && eqb (f .k) 0;
   listsFit = eqb (length (b .counts)) (f .n) && leb (total (b .counts)) places;
@@ -71,7 +71,7 @@ anagramRow f b = record {
 }
 
 -- 3 pouring order: "n 0 to 80; k is 0", "each of 1 to n" (SCOPE 1.3)
-unfoldable pub permutationRow : Family → Lent → Row
+abbrev pub permutationRow : Family → Lent → Row
 permutationRow f b = record {
   inBounds = leb (f .n) places && eqb (f .k) 0;
   listsFit = noCounts b;
@@ -84,7 +84,7 @@ permutationRow f b = record {
 }
 
 -- 4 flask sharing: "n, k 0 to 80", "byte i is the block of model i" (SCOPE 1.4); "no object when k > n", "none when k = 0 < n" (SCOPE 1.b)
-unfoldable pub setPartitionRow : Family → Lent → Row
+abbrev pub setPartitionRow : Family → Lent → Row
 setPartitionRow f b = record {
   inBounds = leb (f .n) places && leb (f .k) places;
   listsFit = noCounts b;
@@ -98,7 +98,7 @@ setPartitionRow f b = record {
 
 -- 5 batch split: "n, k 0 to 80", "k parts, .. weakly descending, sum n" (SCOPE 1.5), "every part of kind 5 is at least that floor" (SCOPE 1.e): k times
 -- the floor is at most n; "none when k = 0 < n" (SCOPE 1.b)
-unfoldable pub integerPartitionRow : Family → Lent → Row
+abbrev pub integerPartitionRow : Family → Lent → Row
 integerPartitionRow f b = record {
   inBounds = leb (f .n) places && leb (f .k) places;
   listsFit = noCounts b;
@@ -111,7 +111,7 @@ integerPartitionRow f b = record {
 }
 
 -- 6 branch plan: "n branches, 0 to 40; k is 0", "2n bytes 1 .. and 0 .., as many of each, no prefix with more 0 than 1" (SCOPE 1.6)
-unfoldable pub dyckWordRow : Family → Lent → Row
+abbrev pub dyckWordRow : Family → Lent → Row
 dyckWordRow f b = record {
   inBounds = leb (f .n) branches && eqb (f .k) 0;
   listsFit = noCounts b;
@@ -137,7 +137,7 @@ noRow b = record {
 }
 
 -- the table: each kind's row stands at its number, from 1 on (SCOPE 1.1 to 1.6)
-unfoldable pub table : Family → Lent → List Row
+abbrev pub table : Family → Lent → List Row
 table f b =
     noRow b
     ∷ subsetRow f b

@@ -5,7 +5,7 @@ ghost use mathlib.Core.List.{map};
 ghost use Prim.Native.Nat.{ℕ, _+_, min};
 ghost use lib.Dec.{leb, ltb, eqb};
 ghost use Rattle.numbers.specs.Limits.{places};
-ghost use Rattle.numbers.specs.Sums.{total};
+ghost use Rattle.basics.specs.Sums.{total};
 ghost use Rattle.numbers.specs.Numbers.{stirlingOf};
 ghost use Rattle.counting.specs.Answers.{fits as fitsOf};
 ghost use Rattle.families.specs.Table.{lent};
@@ -15,6 +15,7 @@ ghost use Rattle.families.specs.inner.Sizes.{sizeAs};
 ghost use Rattle.families.specs.inner.Bounds.{mostN, mostK};
 use crate::Family;
 use crate::Lists;
+use basics::sum_to_limit;
 use counting::Count;
 use numbers::BRANCHES;
 use numbers::FLOORS;
@@ -80,22 +81,6 @@ pub fn floor_fits(f: Family) -> bool
     1 <= f.floor && f.floor <= FLOORS
 }
 
-// The sum of the counts where it is within the places, and one more than the places where it isn't.
-fn sum_to_limit(counts: &[u8]) -> u64
-    ensures { λ r. ⌜ r ≡ min (total (now (counts .entry))) (places + 1) ⌝ }
-{
-    let mut sum: u64 = 0;
-    let mut i = 0;
-    while i < counts.len() {
-        sum += counts[i] as u64;
-        if PLACES < sum {
-            return PLACES + 1;
-        }
-        i += 1;
-    }
-    sum
-}
-
 // Question 3.
 pub fn lists_fit<'a>(f: Family, lists: Lists<'a>) -> bool
     ensures { λ r. ⌜ r ≡ listsFit f (lent (map now (lists .entry))) ⌝ }
@@ -109,7 +94,7 @@ pub fn lists_fit<'a>(f: Family, lists: Lists<'a>) -> bool
     if counts.len() as u64 != n {
         return false;
     }
-    sum_to_limit(counts) <= PLACES
+    sum_to_limit(PLACES, counts) <= PLACES
 }
 
 // Whether n things can be shared out over k blocks with none left empty; over parts of a floor, k is what they have together at the least.
@@ -156,7 +141,7 @@ pub fn object_length<'a>(f: Family, lists: Lists<'a>) -> u64
     let k = f.k;
     match kind {
         1 => k,
-        2 => sum_to_limit(counts),
+        2 => sum_to_limit(PLACES, counts),
         3 => n,
         4 => n,
         5 => k,

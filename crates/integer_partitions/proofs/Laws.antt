@@ -8,7 +8,7 @@ use Rattle.numbers.specs.Limits.{places}
 use Rattle.numbers.specs.Numbers.{partsFrom}
 use Rattle.numbers.proofs.Positive.{parts-some}
 use Rattle.listings.specs.Rows.{RowLaws}
-use Rattle.listings.proofs.Bools.{and-true}
+use Rattle.basics.proofs.Bools.{and-true}
 use Rattle.integer_partitions.specs.Objects.{isIntegerPartition, integerPartitionBefore}
 use Rattle.integer_partitions.specs.Listing.{integerPartitions}
 use Rattle.integer_partitions.proofs.Theorem.{lists, long, counted}

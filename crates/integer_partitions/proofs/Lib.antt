@@ -2,11 +2,9 @@
 pub mod Facts
 pub mod Theorem
 pub mod Laws
-pub mod Floors
-pub mod Parts
-pub mod Extremes
-pub mod Moves
+pub mod Places
+pub mod Neighbours
 pub mod Ranks
-pub mod Loops
 pub mod Testing
+pub mod Floors
 pub mod Small

@@ -1,9 +1,8 @@
 -- Within the places every count of partitions is below 2^64: it is at most a Fibonacci number.
 -- Assumes nothing.
-use mathlib.Core.Path.{_≡_, refl, ap}
-use mathlib.Core.Logic.{_⊎_, inl, inr}
+use mathlib.Core.Path.{_≡_}
 use Prim.Native.Nat.{ℕ, zero, suc, _+_, _-_, _≤_, _<_, _^_}
-use native.Mathlib.Nat.{sub-zero, eq-or-lt-of-le}
+use native.Mathlib.Nat.{add-zero, add-suc, suc-add, sub-zero}
 use native.Mathlib.Decide.{decLe}
 use native.Mathlib.Omega.{arith}
 use Rattle.numbers.specs.Limits.{places}
@@ -15,52 +14,39 @@ fibonacci : ℕ → ℕ → ℕ → ℕ
 fibonacci a b zero = a
 fibonacci a b (suc n) = fibonacci b (a + b) n
 
-next : (a b n : ℕ) → fibonacci a b (suc (suc n)) ≡ fibonacci a b n + fibonacci a b (suc n)
-unfolding fibonacci
-next a b zero = refl
-next a b (suc n) = next b (a + b) n
-
-abbrev Bounded : ℕ → Type 0
-Bounded n = (m : ℕ) → m ≤ n → (k : ℕ) → partitionsOf m k ≤ fibonacci 1 1 n
+-- of sums below n
+abbrev Bounded : ℕ → ℕ → Type 0
+Bounded n b = (m k : ℕ) → m < n → partitionsOf m k ≤ b
 
 -- the rule takes one part of 1 away, or one off each of two or more parts
-grown : (n : ℕ) → Bounded n → Bounded (suc n) → (k : ℕ) → partitionsOf (suc (suc n)) k ≤ fibonacci 1 1 (suc (suc n))
-grown n low high zero = omega (arith, partitions-zero (suc (suc n)) (omega arith))
-grown n low high (suc zero) =
-    omega (
-      arith,
-      next 1 1 n,
-      partitions-rule (suc n) 0 (omega arith),
-      partitions-zero (suc n) (omega arith),
-      ap (λ (m : ℕ). partitionsOf m 1) (sub-zero (suc n)),
-      high (suc n) (omega arith) 1,
-    )
-grown n low high (suc (suc k)) =
-    elim (decLe (suc k) (suc n)) [
-      | yes h ↦ omega (arith, next 1 1 n, partitions-rule (suc n) (suc k) h, high (suc n) (omega arith) (suc k), low (suc n - suc k) (omega arith) (suc (suc k)))
-      | no h ↦ omega (arith, partitions-none (suc (suc n)) (suc (suc k)) (omega arith))
+grown : (n a b : ℕ) → Bounded n a → Bounded (suc n) b → (k : ℕ) → partitionsOf (suc n) k ≤ a + b
+grown n a b low high zero = omega (arith, partitions-zero (suc n) (omega arith))
+grown n a b low high (suc zero) =
+    let rule : partitionsOf (suc n) 1 ≡ partitionsOf n 0 + partitionsOf n 1 = rw sub-zero at (partitions-rule n 0 (omega arith)) in
+    elim (decLe 1 n) [
+      | yes h ↦ omega (arith, partitions-zero n h, high n 1 (omega arith))
+      | no h ↦ omega (arith, partitions-none n 1 (omega arith), high n 0 (omega arith))
+    ]
+grown n a b low high (suc (suc k)) =
+    elim (decLe (suc k) n) [
+      | yes h ↦ omega (arith, partitions-rule n (suc k) h, high n (suc k) (omega arith), low (n - suc k) (suc (suc k)) (omega arith))
+      | no h ↦ omega (arith, partitions-none (suc n) (suc (suc k)) (omega arith))
     ]
 
-bounded : (n : ℕ) → Bounded n
+bounded : (d n a b : ℕ) → Bounded n a → Bounded (suc n) b → Bounded (n + d) (fibonacci a b d)
 unfolding fibonacci
-bounded zero zero h zero = omega (arith, partitions-corner)
-bounded zero zero h (suc k) = omega (arith, partitions-none 0 (suc k) (omega arith))
-bounded zero (suc m) h k = absurd (omega arith)
-bounded (suc zero) zero h k = bounded zero zero (omega arith) k
-bounded (suc zero) (suc zero) h zero = omega (arith, partitions-zero 1 (omega arith))
-bounded (suc zero) (suc zero) h (suc zero) = omega (arith, partitions-rule 0 0 (omega arith), partitions-corner, partitions-none 0 1 (omega arith))
-bounded (suc zero) (suc zero) h (suc (suc k)) = omega (arith, partitions-none 1 (suc (suc k)) (omega arith))
-bounded (suc zero) (suc (suc m)) h k = absurd (omega arith)
-bounded (suc (suc n)) m h k = step (bounded n) (bounded (suc n)) (eq-or-lt-of-le h)
-  where
-    step : Bounded n → Bounded (suc n) → (m ≡ suc (suc n)) ⊎ (m < suc (suc n)) → partitionsOf m k ≤ fibonacci 1 1 (suc (suc n))
-    step low high (inl e) = rw e (grown n low high k)
-    step low high (inr l) = omega (arith, next 1 1 n, high m (omega arith) k)
+bounded zero n a b low high = rw add-zero low
+bounded (suc d) n a b low high = rw (add-suc, ← suc-add) (bounded d (suc n) b (a + b) high λ m k h.
+    elim (decLe m n) [
+      | yes l ↦ omega (arith, high m k (omega arith))
+      | no g ↦ let e : m ≡ suc n = omega arith in rw e (grown n a b low high k)
+    ])
 
-small : (n k : ℕ) → n ≤ places → partitionsOf n k < 2 ^ 64
-unfolding fibonacci
-small n k h = omega (arith, bounded places n h k)
+none : Bounded 1 1
+none zero zero h = omega (arith, partitions-corner)
+none zero (suc k) h = omega (arith, partitions-none 0 (suc k) (omega arith))
+none (suc m) k h = absurd (omega arith)
 
 pub small-over : (f n k : ℕ) → 0 < f → n ≤ places → partsFrom f n k < 2 ^ 64
-unfolding partitionsOf
-small-over f n k pos h = omega (arith, small n k h, floor-mono n k {f = 1} {g = f} (omega arith))
+unfolding partitionsOf fibonacci
+small-over f n k pos h = omega (arith, bounded (suc places) 0 1 1 (λ m j l. absurd (omega arith)) none n k (omega arith), floor-mono n k {f = 1} {g = f} (omega arith))

@@ -5,7 +5,7 @@ use mathlib.Core.List.{[], _∷_}
 use Prim.Native.Nat.{ℕ}
 use lib.Dec.{leb, eqb}
 use lib.ListN.{length, getD}
-use Rattle.numbers.specs.Sums.{total}
+use Rattle.basics.specs.Sums.{total}
 use Rattle.listings.specs.Bytes.{Bytes}
 use Rattle.listings.specs.Orders.{colexBefore}
 

@@ -14,13 +14,13 @@ ghost use Rattle.integer_partitions.specs.Listing.{integerPartitions};
 
 mod search;
 
+use basics::sum;
+use basics::wide;
 use listings::Step;
 use listings::fill_with;
 use partition_numbers::at_least;
 use search::part_to_lower;
 use search::part_to_raise;
-use search::sum;
-use search::wide;
 use search::with_smaller;
 
 // Does the slice hold k parts of at least the floor, weakly descending, with the sum n?

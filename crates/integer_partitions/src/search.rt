@@ -1,38 +1,19 @@
 // The searches behind the steps and ranks of integer partitions: each reads, and answers a place or a number.
 ghost use mathlib.Core.Path.{_≡_};
-ghost use Prim.Native.Nat.{ℕ, suc, _*_, _-_, _≤_, _<_};
-ghost use lib.ListN.{length, take, getD};
+ghost use Prim.Native.Nat.{_-_, _≤_, _<_};
+ghost use lib.ListN.{length};
 ghost use Rattle.numbers.specs.Limits.{places};
-ghost use Rattle.numbers.specs.Sums.{total};
+ghost use Rattle.basics.specs.Sums.{total};
 ghost use Rattle.numbers.specs.Numbers.{partsFrom};
+ghost use Rattle.integer_partitions.specs.inner.Searches.{ToRaise, ToLower};
+use basics::wide;
 use partition_numbers::at_least;
-
-pub fn wide(b: u8) -> u64
-    ensures { λ r. ⌜ r ≡ b ⌝ }
-{
-    b as u64
-}
-
-pub fn sum(parts: &[u8]) -> u64
-    requires { ⌜ total (now parts) ≤ places ⌝ }
-    ensures { λ r. ⌜ r ≡ total (now (parts .entry)) ⌝ }
-{
-    let mut s: u64 = 0;
-    let mut i = 0;
-    while i < parts.len() {
-        s += wide(parts[i]);
-        i += 1;
-    }
-    s
-}
 
 // The first place, from the second on, whose part can go up by one: the parts in front have one to give and stay at least as large; or the
 // length.
 pub fn part_to_raise(object: &[u8]) -> usize
     requires { ⌜ (total (now object) ≤ places) × (length (now object) ≤ places) ⌝ }
-    ensures within { λ r. ⌜ r ≤ length (now (object .entry)) ⌝ }
-    ensures passed { λ r. ⌜ ((j : ℕ) → j < r → total (take j (now (object .entry))) ≤ j * suc (getD (now (object .entry)) j 0)) ⌝ }
-    ensures found { λ r. ⌜ (r < length (now (object .entry)) → r * suc (getD (now (object .entry)) r 0) < total (take r (now (object .entry)))) ⌝ }
+    ensures { λ r. ⌜ ToRaise (now (object .entry)) r ⌝ }
 {
     let mut s: u64 = 0;
     let mut i = 0;
@@ -49,9 +30,7 @@ pub fn part_to_raise(object: &[u8]) -> usize
 
 // The first place, from the second on, whose part is above the next (above the floor at the last place), or the length.
 pub fn part_to_lower(floor: u64, object: &[u8]) -> usize
-    ensures within { λ r. ⌜ r ≤ length (now (object .entry)) ⌝ }
-    ensures passed { λ r. ⌜ ((j : ℕ) → 0 < j → j < r → getD (now (object .entry)) j 0 ≤ getD (now (object .entry)) (suc j) floor) ⌝ }
-    ensures found { λ r. ⌜ (r < length (now (object .entry)) → (0 < r) × (getD (now (object .entry)) (suc r) floor < getD (now (object .entry)) r 0)) ⌝ }
+    ensures { λ r. ⌜ ToLower floor (now (object .entry)) r ⌝ }
 {
     let k = object.len();
     let mut i = 1;

@@ -1,14 +1,14 @@
--- A list joined from ascending parts, or mapped from an ascending list, ascends.
+-- A list joined from ascending parts, or mapped from an ascending list, ascends; turned round it ascends in the order turned round.
 -- Assumes nothing.
 use mathlib.Core.Path.{_≡_, refl, subst}
 use mathlib.Core.Logic.{⊎-elim}
 use mathlib.Core.Bool.{Bool, true}
-use mathlib.Core.List.{List, _++_, map, flatMap, List·Memᴰ, List·Memᴰ·head, List·Memᴰ·tail, List·Memᴰ·append-cases, Memᴰ·of-map}
+use mathlib.Core.List.{List, _++_, map, flatMap, reverse, reverseAux, List·Memᴰ, List·Memᴰ·head, List·Memᴰ·tail, List·Memᴰ·cases-cons, List·Memᴰ·not-nil, List·Memᴰ·append-cases, Memᴰ·of-map}
 use Prim.Native.Nat.{ℕ, zero, suc}
 use lib.Dec.{ltb}
 use borrow.Author.Tests.{lt-ltb}
-use Rattle.numbers.specs.Sums.{range}
-use Rattle.numbers.proofs.Ranges.{between}
+use Rattle.basics.specs.Sums.{range}
+use Rattle.basics.proofs.Ranges.{between}
 use Rattle.listings.specs.Listings.{Ascending, none, more}
 use Rattle.listings.proofs.Members.{flatMap-of}
 
@@ -38,3 +38,13 @@ pub ascending-range : (a m : ℕ) → Ascending ltb (range a m)
 unfolding range
 ascending-range a zero = none
 ascending-range a (suc m) = more (λ y k. lt-ltb a y (between (suc a) m k .from)) (ascending-range (suc a) m)
+
+ascending-onto : {A : Type 0} {lt : A → A → Bool} {l m : List A} → Ascending lt l → Ascending (λ a b. lt b a) m → ((a b : A) → List·Memᴰ a l → List·Memᴰ b m → lt b a ≡ true)
+    → Ascending (λ a b. lt b a) (reverseAux l m)
+ascending-onto none later apart = later
+ascending-onto {lt} (more {x} before rest) later apart =
+    ascending-onto rest (more (λ b k. apart x b (List·Memᴰ·head refl) k) later)
+    (λ a b k m. ⊎-elim (λ (e : b ≡ x). rw e (before a k)) (apart a b (List·Memᴰ·tail k)) (List·Memᴰ·cases-cons m))
+
+pub ascending-reverse : {A : Type 0} {lt : A → A → Bool} {l : List A} → Ascending lt l → Ascending (λ a b. lt b a) (reverse l)
+ascending-reverse up = ascending-onto up none (λ a b k m. absurd (List·Memᴰ·not-nil m))

@@ -1,7 +1,7 @@
 -- Demand 3 over any listing and any table of questions: whatever calls are made, in whatever order, they answer and leave what the marker does.
 -- Assumes nothing.
 use mathlib.Core.Path.{_≡_, refl, sym, ap, _∙_}
-use mathlib.Core.Bool.{Bool, true, false, false≢true}
+use mathlib.Core.Bool.{Bool, true, false, cond, false≢true}
 use mathlib.Core.Option.{Option, none, some}
 use mathlib.Core.List.{List, [], _∷_}
 use Prim.Native.Nat.{ℕ, zero, suc, _-_, _<_}
@@ -11,8 +11,8 @@ use lib.ListN.{length, getD, getElem?}
 use borrow.Author.Tests.{ltb-true, ltb-false}
 use Rattle.listings.specs.Bytes.{Bytes}
 use Rattle.listings.specs.Listings.{Listing}
-use Rattle.listings.specs.Calls.{Call, COUNT, FIRST, LAST, NEXT, PREVIOUS, RANK, UNRANK, Answer, WRITTEN, Said, judged, placeOf, onward, backward, stepped, act, responses}
-use Rattle.listings.specs.Marker.{Mark, start, stands, shown, stepsTo, oneOn, oneBack, rankAt, move, marked, Refuse, runFrom, markerRun}
+use Rattle.listings.specs.Calls.{Call, COUNT, FIRST, LAST, NEXT, PREVIOUS, RANK, UNRANK, Answer, WRITTEN, STEPPED, END, Said, judged, placeOf, onward, backward, stepped, act, responses}
+use Rattle.listings.specs.Marker.{Mark, start, stands, shown, oneOn, oneBack, rankAt, move, marked, Refuse, runFrom, markerRun}
 use Rattle.listings.proofs.Standing.{getD-default, getElem-some, getElem-none, Tells, place-tells, object-at, not-object, rank-at, place-at}
 
 -- a listing all of whose objects are len bytes long
@@ -82,8 +82,8 @@ module _ {refuse : Refuse} {object : Bytes → Bool} {lt : Bytes → Bytes → B
 
   -- NEXT from place p
   forth : (p : ℕ) → (p < length l) × (length s ≡ len) → (b : Bool) → ltb (suc p) (length l) ≡ b
-      → Agrees object l len s (stepped (getD l p s) (getElem? l (suc p))) (stepsTo b (suc p) (some p))
-  unfolding stepped stepsTo shown
+      → Agrees object l len s (stepped (getD l p s) (getElem? l (suc p))) (cond b (STEPPED, some (suc p)) (END, (some p)))
+  unfolding stepped shown
   forth p at true e = let h : suc p < length l = ltb-true (suc p) (length l) e in record { says = rw (getElem-some l (suc p) s h); sits = (h, at .1) }
   forth p at false e = record { says = rw (getElem-none l (suc p) (ltb-false (suc p) (length l) e)); sits = at }
 

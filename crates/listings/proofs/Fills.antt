@@ -6,10 +6,11 @@ use Prim.Native.Nat.{ℕ, zero, suc, _+_, _≤_, _<_}
 use native.Mathlib.Nat.{add-zero, zero-add, add-suc, suc-add}
 use native.Mathlib.Numerals.{add-one}
 use native.Mathlib.Omega.{arith}
-use lib.Seq.{getD-append-seam}
+use lib.Seq.{getD-append-seam, getD-append-add}
 use lib.ListN.{length, getD, set, drop, replicate, length-map, length-append, length-drop, drop-of-length-le}
-use Rattle.numbers.specs.Sums.{range}
-use Rattle.numbers.proofs.Laws.{length-range}
+use Rattle.basics.specs.Sums.{range}
+use Rattle.basics.proofs.Ranges.{length-range}
+use Rattle.basics.proofs.Lists.{head-drop}
 
 -- the first i stored, the others as they were
 abbrev pub filled : (ℕ → ℕ) → ℕ → List ℕ → List ℕ
@@ -27,6 +28,12 @@ fill-none g d = refl
 
 pub fill-more : (g : ℕ → ℕ) (i : ℕ) (d : List ℕ) → i < length d → set (filled g i d) i (g i) ≡ filled g (i + 1) d
 fill-more g i d h = rw (add-one, ← store g 0 i d h, zero-add)
+
+-- the next is as it was
+pub fill-next : (g : ℕ → ℕ) (i : ℕ) (d : List ℕ) → getD (filled g i d) i 0 ≡ getD d i 0
+fill-next g i d =
+    let e : length (map g (range 0 i)) + 0 ≡ i = simp (length-map, length-range) (add-zero i) in
+    ap (λ j. getD (filled g i d) j 0) (sym e) ∙ getD-append-add (map g (range 0 i)) (drop i d) 0 0 ∙ head-drop d i 0
 
 pub length-filled : (g : ℕ → ℕ) (i : ℕ) (d : List ℕ) → i ≤ length d → length (filled g i d) ≡ length d
 length-filled g i d h = simp (length-append, length-map, length-range, length-drop) (omega arith)

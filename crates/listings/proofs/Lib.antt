@@ -1,6 +1,8 @@
 -- The laws of listings: how lists built by cases, images and products of lists keep their order, and where things stand in them.
 pub mod AscendingRules
-pub mod Bools
+pub mod ChoiceRules
+pub mod ChoicePlaces
+pub mod JoinedRule
 pub mod KeptRule
 pub mod LoehrRules
 pub mod Members

@@ -14,7 +14,7 @@ use borrow.Author.Tests.{ltb-true, lt-ltb, eqb-true, eq-eqb}
 use Rattle.listings.specs.Bytes.{Bytes, same}
 use Rattle.listings.specs.Listings.{StrictTotal}
 use Rattle.listings.specs.Orders.{lexBefore, colexBefore}
-use Rattle.listings.proofs.Bools.{and-true, and-makes, or-cases, or-left, or-right}
+use Rattle.basics.proofs.Bools.{and-true, and-makes, or-cases, or-left, or-right}
 use Rattle.listings.proofs.SameBytes.{eq-same, same-eq, same-snoc}
 
 -- two numbers are less, equal or greater

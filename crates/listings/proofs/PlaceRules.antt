@@ -3,11 +3,13 @@
 use mathlib.Core.Path.{_≡_, refl, sym, _∙_, ap, subst}
 use mathlib.Core.Option.{Option, some, Option·some-injective, Option·none-ne-some}
 use mathlib.Core.List.{List, [], _∷_, _++_, map, flatMap, append-nil, List·Memᴰ, List·Memᴰ·head, List·Memᴰ·tail}
-use Prim.Native.Nat.{ℕ, zero, suc, _+_, _*_, _<_}
-use native.Mathlib.Nat.{zero-add, suc-add, add-suc, add-assoc, zero-mul, suc-mul, le-of-lt}
+use Prim.Native.Nat.{ℕ, zero, suc, _+_, _-_, _*_, _≤_, _<_}
+use native.Mathlib.Nat.{add-zero, zero-add, suc-add, add-suc, add-assoc, zero-mul, suc-mul, le-of-lt}
 use native.Mathlib.Omega.{arith}
 use lib.ListN.{length, take, length-append, length-map}
 use lib.Seq.{length-take-le}
+use Rattle.basics.specs.Sums.{range}
+use Rattle.basics.proofs.Ranges.{length-range}
 use Rattle.listings.specs.Places.{At, Follows, First, Last}
 
 -- a place and what stands there
@@ -69,9 +71,6 @@ module _ {A : Type 0} where
 
   pub first-append : (l m : List A) {x : A} → First l x → First (l ++ m) x
   first-append l m h = at-append-left l m 0 h
-
-  pub first-append-empty : (l m : List A) {x : A} → l ≡ [] → First m x → First (l ++ m) x
-  first-append-empty l m e h = rw e h
 
   pub last-append : (l : List A) {m : List A} {x : A} → Last m x → Last (l ++ m) x
   last-append l {m} s =
@@ -139,3 +138,21 @@ module _ {A B C : Type 0} (f : A → B → C) where
   pub at-pairs : (l : List A) (m : List B) (p q : ℕ) {a : A} {b : B} → At l a p → At m b q → At (flatMap (λ a. map (f a) m) l) (f a b) (p * length m + q)
   at-pairs l m p q {a} h k =
       rw (length-pairs (take p l) m, length-take-le p l (le-of-lt (at-below l p h))) at (at-flatMap (λ a. map (f a) m) l p q h (at-map (f a) m q k))
+
+-- the numbers of a range
+
+pub at-range : (a m i : ℕ) → i < m → At (range a m) (a + i) i
+unfolding range
+at-range a zero i h = absurd (omega arith)
+at-range a (suc m) zero h = rw add-zero
+at-range a (suc m) (suc i) h = rw (add-suc, ← suc-add) (at-range (suc a) m i (omega arith))
+
+pub at-range-from : (a m p : ℕ) → a ≤ p → p < a + m → At (range a m) p (p - a)
+at-range-from a m p low high = subst (λ (q : ℕ). At (range a m) q (p - a)) (omega arith) (at-range a m (p - a) (omega arith))
+
+pub last-range : (a m p : ℕ) → a + m ≡ suc p → a ≤ p → Last (range a m) p
+last-range a m p e low = record { place = p - a; here = at-range-from a m p low (omega arith); final = omega (arith, length-range a m) }
+
+pub follows-range : (a m p : ℕ) → a ≤ p → suc p < a + m → Follows (range a m) p (suc p)
+follows-range a m p low high =
+    record { place = p - a; here = at-range-from a m p low (omega arith); there = subst (At (range a m) (suc p)) (omega arith) (at-range-from a m (suc p) (omega arith) high) }

@@ -1,8 +1,8 @@
 -- In a listing the place of an object is the number of objects before it, and neighbours are the objects with none between.
 -- Assumes nothing.
-use mathlib.Core.Path.{_≡_, refl, sym, _∙_, subst}
+use mathlib.Core.Path.{_≡_, refl, subst}
 use mathlib.Core.Logic.{_⊎_, inl, inr}
-use mathlib.Core.Bool.{Bool, true, false}
+use mathlib.Core.Bool.{Bool, true, false, cond}
 use mathlib.Core.Option.{Option·some-injective, Option·none-ne-some}
 use mathlib.Core.List.{List, [], _∷_, List·Memᴰ, List·Memᴰ·head, List·Memᴰ·tail, List·Memᴰ·cases-cons}
 use Prim.Native.Nat.{ℕ, zero, suc, _<_}
@@ -11,7 +11,8 @@ use native.Mathlib.Omega.{arith}
 use lib.ListN.{length}
 use Rattle.listings.specs.Listings.{Ascending, none, more, StrictTotal, Listing}
 use Rattle.listings.specs.Places.{At, Follows, First, Last, countBefore}
-use Rattle.listings.proofs.Bools.{fails}
+use Rattle.listings.specs.Directions.{Beside, after, before as back, Edge, latest, earliest}
+use Rattle.basics.proofs.Bools.{fails}
 use Rattle.listings.proofs.OrderFacts.{trichotomy}
 use Rattle.listings.proofs.PlaceRules.{at-below, at-exists, at-member, member-at, at-unique-element}
 use Rattle.listings.proofs.Uniqueness.{asymmetric}
@@ -54,11 +55,16 @@ module _ {A : Type 0} {object : A → Bool} {lt : A → A → Bool} {l : List A}
   pub place-is-rank : (r : ℕ) {x : A} → At l x r → countBefore lt x l ≡ r
   place-is-rank r h = rank-from (listing .order) l r (listing .ascending) (listing .only) h
 
-  pub at-once : (r q : ℕ) {x : A} → At l x r → At l x q → r ≡ q
-  at-once r q h k = sym (place-is-rank r h) ∙ place-is-rank q k
-
   object-at : (x : A) → object x ≡ true → (r : ℕ) × At l x r
   object-at x o = member-at (listing .every x o)
+
+  -- an object stands at its rank, which is below the count
+
+  pub at-rank : (x : A) → object x ≡ true → At l x (countBefore lt x l)
+  at-rank x o = let (r, h) = object-at x o in rw (place-is-rank r h) h
+
+  pub rank-below : (x : A) → object x ≡ true → countBefore lt x l < length l
+  rank-below x o = at-below l (countBefore lt x l) (at-rank x o)
 
   at-object : (r : ℕ) {x : A} → At l x r → object x ≡ true
   at-object r {x} h = listing .only x (at-member l r h)
@@ -71,13 +77,6 @@ module _ {A : Type 0} {object : A → Bool} {lt : A → A → Bool} {l : List A}
       step (inl e) = e
       step (inr (inl e)) = absurd (listing .order .irreflexive x (at-object p h) (rw (at-unique-element l q k (rw e at h)) at less))
       step (inr (inr e)) = absurd (asymmetric (listing .order) x y (at-object p h) (at-object q k) less (at-before q p (listing .ascending) k h e))
-
-  pub follows-before : {x y : A} → Follows l x y → lt x y ≡ true
-  follows-before s = at-before (s .place) (suc (s .place)) (listing .ascending) (s .here) (s .there) (omega arith)
-
-  pub follows-nearest : {x y : A} → Follows l x y → (z : A) → object z ≡ true → lt x z ≡ true → lt z y ≡ true → ⊥
-  follows-nearest s z o low high =
-      let (p, h) = object-at z o in omega (arith, before-at (s .place) p (s .here) h low, before-at p (suc (s .place)) h (s .there) high)
 
   pub none-between : {x y : A} → object x ≡ true → object y ≡ true → lt x y ≡ true → ((z : A) → object z ≡ true → lt x z ≡ true → lt z y ≡ true → ⊥) → Follows l x y
   none-between {x} {y} o o′ less empty = step (object-at x o) (object-at y o′)
@@ -108,3 +107,20 @@ module _ {A : Type 0} {object : A → Bool} {lt : A → A → Bool} {l : List A}
 
       step : (p : ℕ) × At l x p → Last l x
       step a = next (a .0) (a .1) (eq-or-lt-of-le (at-below l (a .0) (a .1)))
+
+  -- in either direction
+
+  pub edge-none : (up : Bool) {x : A} → object x ≡ true → ((z : A) → object z ≡ true → cond up (lt x z) (lt z x) ≡ true → ⊥) → Edge up l x
+  edge-none true o free = latest (greatest-last o free)
+  edge-none false o free = earliest (least-first o free)
+
+  pub beside-none : (up : Bool) {x y : A} → object x ≡ true → object y ≡ true → cond up (lt x y) (lt y x) ≡ true
+      → ((z : A) → object z ≡ true → cond up (lt x z) (lt z x) ≡ true → cond up (lt z y) (lt y z) ≡ true → ⊥) → Beside up l x y
+  beside-none true o o′ less free = after (none-between o o′ less free)
+  beside-none false o o′ less free = back (none-between o′ o less (λ z p h k. free z p k h))
+
+pub edge-first : {A : Type 0} {l : List A} {x : A} → Edge false l x → First l x
+edge-first (earliest h) = h
+
+pub edge-last : {A : Type 0} {l : List A} {x : A} → Edge true l x → Last l x
+edge-last (latest h) = h

@@ -9,7 +9,7 @@ use lib.Dec.{eqb}
 use lib.ListN.{length}
 use borrow.Author.Tests.{eqb-true, eq-eqb}
 use Rattle.listings.specs.Bytes.{Bytes, same}
-use Rattle.listings.proofs.Bools.{and-true, and-makes}
+use Rattle.basics.proofs.Bools.{and-true, and-makes}
 
 pub same-refl : (x : Bytes) → same x x ≡ true
 unfolding same

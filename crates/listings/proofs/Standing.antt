@@ -13,7 +13,7 @@ use Rattle.listings.specs.Listings.{Listing}
 use Rattle.listings.specs.Places.{countBefore}
 use Rattle.listings.specs.Calls.{placeOf}
 use Rattle.listings.proofs.SameBytes.{same-eq, same-ne}
-use Rattle.listings.proofs.Bools.{fails}
+use Rattle.basics.proofs.Bools.{fails}
 use Rattle.listings.proofs.PlaceRules.{at-member}
 use Rattle.listings.proofs.Ranks.{place-is-rank}
 

@@ -1,7 +1,7 @@
 -- What NEXT and PREVIOUS do, by what follows what: a neighbour is stepped to, and past the last and the first there is END. And where an object stands.
 -- Assumes nothing.
 use mathlib.Core.Path.{_≡_, refl, sym, ap, _∙_}
-use mathlib.Core.Bool.{Bool, true}
+use mathlib.Core.Bool.{Bool}
 use mathlib.Core.Option.{Option, none, some, Option·some-injective, Option·none-ne-some}
 use mathlib.Core.List.{List}
 use Prim.Native.Nat.{ℕ, zero, suc}
@@ -9,10 +9,11 @@ use native.Mathlib.Omega.{arith}
 use lib.ListN.{getD}
 use Rattle.listings.specs.Bytes.{Bytes}
 use Rattle.listings.specs.Listings.{Listing}
-use Rattle.listings.specs.Places.{At, Follows, First, Last, countBefore}
+use Rattle.listings.specs.Places.{At, Follows, First, Last}
 use Rattle.listings.specs.Calls.{NEXT, PREVIOUS, Answer, STEPPED, END, Said, placeOf, onward, backward, stepped, act}
+use Rattle.listings.specs.Directions.{stepCall, Beside, after, before, Edge, latest, earliest}
 use Rattle.listings.proofs.PlaceRules.{at-below}
-use Rattle.listings.proofs.Standing.{getElem-some, getElem-none, Found, Tells, place-tells, place-at, stands-at-rank}
+use Rattle.listings.proofs.Standing.{getElem-some, getElem-none, Found, Tells, place-tells, place-at}
 
 -- what a step that was answered so found
 
@@ -56,10 +57,6 @@ module _ {object : Bytes → Bool} {lt : Bytes → Bytes → Bool} {l : List Byt
       let there : getD l p x ≡ x = Option·some-injective (getD l p x) x (sym (getElem-some l p x inside) ∙ h) in
       ap (placeOf l) (sym there) ∙ place-at lists p x inside
 
-  -- an object stands at its rank
-  pub at-rank : (x : Bytes) → object x ≡ true → At l x (countBefore lt x l)
-  at-rank x o = found-at (stands-at-rank lists x o)
-
   -- neighbours differ
   pub neighbours-differ : {x y : Bytes} → Follows l x y → x ≡ y → ⊥
   neighbours-differ {x} {y} s e =
@@ -81,3 +78,12 @@ module _ {object : Bytes → Bool} {lt : Bytes → Bytes → Bool} {l : List Byt
   pub previous-ends : {x : Bytes} → First l x → _≡_ {A = Said} (END, x) (act PREVIOUS lt l x)
   unfolding act backward stepped
   previous-ends h = rw (place-here 0 h)
+
+  -- in either direction
+  pub steps : {up : Bool} {x y : Bytes} → Beside up l x y → _≡_ {A = Said} (STEPPED, y) (act (stepCall up) lt l x)
+  steps (after f) = next-steps f
+  steps (before f) = previous-steps f
+
+  pub stops : {up : Bool} {x : Bytes} → Edge up l x → _≡_ {A = Said} (END, x) (act (stepCall up) lt l x)
+  stops (latest h) = next-ends h
+  stops (earliest h) = previous-ends h

@@ -11,14 +11,15 @@ use native.Mathlib.Omega.{arith}
 use lib.ListN.{length, getD, take, drop, replicate, drop-of-length-le}
 use lib.Seq.{drop-cons, take-suc, take-all}
 use borrow.Author.Tests.{lt-ltb, le-ltb}
-use Rattle.numbers.specs.Sums.{range}
+use Rattle.basics.specs.Sums.{range}
 use Rattle.listings.specs.Bytes.{Bytes}
 use Rattle.listings.specs.Places.{countBefore}
 use Rattle.listings.specs.Calls.{Call, FIRST, LAST, NEXT, PREVIOUS, RANK, UNRANK, REFUSED, RANKED, WRITTEN, Said, judged, act, responses}
-use Rattle.listings.specs.Marker.{Mark, start, stands, shown, stepsTo, oneOn, oneBack, move, marked, Refuse, runFrom, markerRun}
+use Rattle.listings.specs.Marker.{Mark, start, stands, shown, oneOn, oneBack, move, marked, Refuse, runFrom, markerRun}
 use Rattle.listings.specs.Runs.{heard, untilEnd, bytesOf, finally, unranks}
 use Rattle.listings.proofs.Standing.{getD-default, Tells, place-tells, found-rank, stands-at-rank}
-use Rattle.listings.proofs.Stepping.{place-here, at-rank}
+use Rattle.listings.proofs.Ranks.{at-rank}
+use Rattle.listings.proofs.Stepping.{place-here}
 use Rattle.listings.proofs.Demand.{Lawful, Asks, answering, shows-start, stands-start, calls-are-the-marker}
 
 reverse-take : (l : List Bytes) (p : ℕ) (d : Bytes) → p < length l → reverse (take (suc p) l) ≡ getD l p d ∷ reverse (take p l)
@@ -29,7 +30,7 @@ reverse-take l p d h = rw (take-suc l p d h, reverse-append)
 module _ (refuse : Refuse) (l : List Bytes) (s : Bytes) where
   -- from place p on to the end
   on : refuse NEXT (length s) true ≡ none → (p m : ℕ) → p < length l → length l ≤ p + m → untilEnd (runFrom refuse l s (some p) (replicate m NEXT)) ≡ some (drop (suc p) l)
-  unfolding untilEnd heard runFrom stands move marked oneOn stepsTo shown
+  unfolding untilEnd heard runFrom stands move marked oneOn shown
   on free p zero h enough = absurd (omega arith)
   on free p (suc m) h enough = elim (decLt (suc p) (length l)) [
     | yes more ↦ rw (free, lt-ltb (suc p) (length l) more, on free (suc p) m more (omega arith), drop-cons l (suc p) s more)
@@ -52,13 +53,13 @@ module _ (refuse : Refuse) (l : List Bytes) (s : Bytes) where
   -- m steps on, where there are as many, and then further calls
   on-then : refuse NEXT (length s) true ≡ none → (p m : ℕ) (cs : List Call) → p + m < length l
       → finally (getD l p s) (runFrom refuse l s (some p) (replicate m NEXT ++ cs)) ≡ finally (getD l (p + m) s) (runFrom refuse l s (some (p + m)) cs)
-  unfolding finally runFrom stands move marked oneOn stepsTo shown
+  unfolding finally runFrom stands move marked oneOn shown
   on-then free p zero cs h = rw add-zero
   on-then free p (suc m) cs h = rw (free, lt-ltb (suc p) (length l) (omega arith), on-then free (suc p) m cs (omega arith), suc-add, add-suc)
 
   -- with as many objects behind it END isn't heard
   on-unheard : refuse NEXT (length s) true ≡ none → (p m : ℕ) → p + m < length l → untilEnd (runFrom refuse l s (some p) (replicate m NEXT)) ≡ none
-  unfolding untilEnd heard runFrom stands move marked oneOn stepsTo shown
+  unfolding untilEnd heard runFrom stands move marked oneOn shown
   on-unheard free p zero h = refl
   on-unheard free p (suc m) h = rw (free, lt-ltb (suc p) (length l) (omega arith), on-unheard free (suc p) m (omega arith))
 

@@ -1,6 +1,6 @@
 -- The calls (SCOPE 3), what they answer, and what each does to an object of a listing once its questions have passed.
 -- Assumes nothing.
-use mathlib.Core.Bool.{Bool, true, false, _&&_, cond}
+use mathlib.Core.Bool.{Bool, cond}
 use mathlib.Core.Option.{Option, none, some, Option·map}
 use mathlib.Core.List.{List, [], _∷_}
 use Prim.Native.Nat.{ℕ, zero, suc, _-_}
@@ -28,15 +28,10 @@ pub record Question : Type 0 where
   pub number : ℕ
   pub yes? : Bool
 
--- the later answer after a yes, this question's number after a no
-unfoldable pub orElse : Bool → ℕ → Option ℕ → Option ℕ
-orElse true q later = later
-orElse false q later = some q
-
 -- "They are put in this order; the first no is the refusal" (SCOPE 4.a)
 unfoldable pub firstNo : List Question → Option ℕ
 firstNo [] = none
-firstNo (q ∷ qs) = orElse (q .yes?) (q .number) (firstNo qs)
+firstNo (q ∷ qs) = cond (q .yes?) (firstNo qs) (some (q .number))
 
 -- "a refusal changes no lent byte" (SCOPE 4.a)
 unfoldable pub judged : Option ℕ → Bytes → Said → Said

@@ -2,6 +2,8 @@
 pub mod Bytes
 pub mod Orders
 pub mod Listings
+pub mod Choices
+pub mod Joined
 pub mod Kept
 pub mod Rows
 pub mod Places
@@ -9,3 +11,4 @@ pub mod Calls
 pub mod Marker
 pub mod Runs
 pub mod Steps
+pub mod Directions

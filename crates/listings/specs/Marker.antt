@@ -1,6 +1,6 @@
 -- Paper 01's marker on a listing (SCOPE 5). It is fed the bytes before the first call and the calls, but none of their answers.
 -- Assumes nothing.
-use mathlib.Core.Bool.{Bool, true, false}
+use mathlib.Core.Bool.{Bool, true, false, cond}
 use mathlib.Core.Option.{Option, none, some}
 use mathlib.Core.List.{List, [], _∷_}
 use Prim.Native.Nat.{ℕ, zero, suc, _-_}
@@ -27,16 +27,11 @@ unfoldable pub shown : List Bytes → Bytes → Mark → Bytes
 shown l s none = s
 shown l s (some p) = getD l p s
 
--- "the answer is that it stepped; with no object there the answer is END and it stays" (SCOPE 5.5)
-unfoldable pub stepsTo : Bool → ℕ → Mark → Answer × Mark
-stepsTo true p m = (STEPPED, some p)
-stepsTo false p m = (END, m)
-
--- "NEXT moves it one on" (SCOPE 5.5). Nowhere, it is refused by question 7 before: the first case of this, of `oneBack` and of `rankAt` is never
--- reached
+-- "NEXT moves it one on", "the answer is that it stepped; with no object there the answer is END and it stays" (SCOPE 5.5). Nowhere, it is refused by
+-- question 7 before: the first case of this, of `oneBack` and of `rankAt` is never reached
 unfoldable pub oneOn : List Bytes → Mark → Answer × Mark
 oneOn l none = (END, none)
-oneOn l (some p) = stepsTo (ltb (suc p) (length l)) (suc p) (some p)
+oneOn l (some p) = cond (ltb (suc p) (length l)) (STEPPED, some (suc p)) (END, some p)
 
 -- "PREVIOUS one back" (SCOPE 5.5)
 unfoldable pub oneBack : List Bytes → Mark → Answer × Mark

@@ -1,15 +1,23 @@
--- The binomial coefficients: the addition rule, where they vanish, how they grow, and the two rules that take one element away.
+-- The binomial coefficients: the addition rule, the sum over the largest element, where they vanish, how they grow, and the two rules that take one element away.
 -- Assumes nothing.
-use mathlib.Core.Path.{_≡_, refl}
+use mathlib.Core.Path.{_≡_, refl, _∙_, ap}
 use Prim.Native.Nat.{ℕ, zero, suc, _+_, _*_, _≤_, _<_}
-use native.Mathlib.Nat.{add-zero, add-suc, mul-zero, one-mul, suc-mul, mul-add, add-mul, le-refl, le-trans, le-dest}
+use native.Mathlib.Nat.{add-zero, zero-add, add-suc, mul-zero, one-mul, suc-mul, mul-add, add-mul, le-refl, le-trans, le-dest}
 use native.Mathlib.Omega.{arith}
+use Rattle.basics.specs.Sums.{range, sumOver}
+use Rattle.basics.proofs.Ranges.{range-snoc, sumOver-append}
 use Rattle.numbers.specs.Numbers.{choose}
 use Rattle.numbers.proofs.Weighted.{Weighted}
 
 pub pascal : (n k : ℕ) → choose (suc n) (suc k) ≡ choose n k + choose n (suc k)
 unfolding choose
 pascal n k = refl
+
+-- a set by its largest element: the others are out of the m below it
+pub choose-sum : (n k : ℕ) → sumOver (range 0 n) (λ m. choose m k) ≡ choose n (suc k)
+unfolding choose range sumOver
+choose-sum zero k = refl
+choose-sum (suc n) k = ap (λ l. sumOver l (λ m. choose m k)) (range-snoc 0 n) ∙ sumOver-append (range 0 n) _ (λ m. choose m k) ∙ rw zero-add (omega (arith, choose-sum n k))
 
 pub choose-zero : (n : ℕ) → choose n 0 ≡ 1
 unfolding choose

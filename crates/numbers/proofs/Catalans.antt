@@ -7,9 +7,9 @@ use native.Mathlib.Decide.{le-ind}
 use native.Mathlib.Omega.{arith}
 use lib.Dec.{lit<, lit≤}
 use lib.ListN.{getD}
-use Rattle.numbers.specs.Sums.{range, sumOver}
+use Rattle.basics.specs.Sums.{range, sumOver}
 use Rattle.numbers.specs.Numbers.{catalansDown, catalanOf}
-use Rattle.numbers.proofs.Ranges.{sumOver-cong, member-le, between, in-range}
+use Rattle.basics.proofs.Ranges.{sumOver-cong, member-le, between, in-range}
 
 down-at : (n i : ℕ) → i ≤ n → getD (catalansDown n) i 0 ≡ catalanOf (n - i)
 unfolding catalanOf catalansDown

@@ -7,10 +7,8 @@ pub mod Multinomials
 pub mod PartitionLaws
 pub mod Past
 pub mod Positive
-pub mod Ranges
 pub mod Stirlings
 pub mod Tables
-pub mod Totals
 pub mod TriangleIndex
 pub mod Triangles
 pub mod Weighted

@@ -3,15 +3,15 @@
 use mathlib.Core.Path.{_≡_, refl, sym, _∙_, ap}
 use mathlib.Core.Logic.{⊎-elim}
 use mathlib.Core.List.{List, [], _∷_, map, List·Memᴰ, List·Memᴰ·head, List·Memᴰ·tail, List·Memᴰ·not-nil, List·Memᴰ·cases-cons, Memᴰ·cast}
-use Prim.Native.Nat.{ℕ, zero, suc, _+_, _*_, _≤_, _<_}
-use native.Mathlib.Nat.{zero-add, add-zero, suc-add, mul-comm, mul-assoc, mul-left-comm, mul-right-comm, one-le-mul, le-refl, le-trans, le-mul-of-pos-right, eq-of-mul-eq-mul-left, le-add-right}
-use native.Mathlib.Numerals.{one-add}
+use Prim.Native.Nat.{ℕ, zero, suc, _+_, _-_, _*_, _≤_, _<_}
+use native.Mathlib.Nat.{zero-add, add-zero, suc-add, mul-comm, mul-assoc, mul-left-comm, mul-right-comm, one-le-mul, le-refl, le-trans, le-mul-of-pos-right, lt-of-not-le, one-mul, eq-of-mul-eq-mul-left, le-add-right}
+use native.Mathlib.Numerals.{one-add, sub-one}
 use native.Mathlib.Omega.{arith}
-use lib.ListN.{getD, drop, replicate}
-use Rattle.numbers.specs.Sums.{total, sumOver}
+use lib.ListN.{length, getD, set, drop, replicate, length-set, List·getD-eq-default}
+use Rattle.basics.specs.Sums.{total, sumOver}
 use Rattle.numbers.specs.Numbers.{choose, factorialOf, multinomialOf, oneLess, lettersFrom}
-use Rattle.numbers.proofs.Ranges.{sumOver-cong, sumOver-times, sumOver-map, member-le}
-use Rattle.numbers.proofs.Binomials.{choose-positive, choose-one, absorb, absorb-rest}
+use Rattle.basics.proofs.Ranges.{sumOver-cong, sumOver-times, sumOver-map, member-le}
+use Rattle.numbers.proofs.Binomials.{choose-positive, choose-zero, choose-one, absorb, absorb-rest}
 
 pub total-less : (cs : List ℕ) (i : ℕ) → 0 < getD cs i 0 → suc (total (oneLess cs i)) ≡ total cs
 unfolding total oneLess
@@ -115,3 +115,24 @@ pub multinomial-ones : (n : ℕ) → multinomialOf (replicate n 1) ≡ factorial
 unfolding multinomialOf factorialOf
 multinomial-ones zero = refl
 multinomial-ones (suc n) = rw (choose-one, total-ones n, multinomial-ones n, one-add)
+
+-- no letters make one word, the empty one
+pub one-empty : (cs : List ℕ) → total cs ≡ 0 → multinomialOf cs ≡ 1
+unfolding multinomialOf total
+one-empty [] s = refl
+one-empty (zero ∷ cs) s = rw (choose-zero, one-mul) (one-empty cs (omega arith))
+one-empty (suc c ∷ cs) s = absurd (omega arith)
+
+-- a letter less, as it is stored
+pub one-less-set : (cs : List ℕ) (i : ℕ) → set cs i (getD cs i 0 - 1) ≡ oneLess cs i
+unfolding oneLess
+one-less-set [] i = refl
+one-less-set (c ∷ cs) zero = rw sub-one
+one-less-set (c ∷ cs) (suc i) = ap (λ l. c ∷ l) (one-less-set cs i)
+
+pub length-one-less : (cs : List ℕ) (i : ℕ) → length (oneLess cs i) ≡ length cs
+length-one-less cs i = ap length (sym (one-less-set cs i)) ∙ length-set cs i (getD cs i 0 - 1)
+
+-- a letter that is left has a place among the counts
+pub left-inside : (cs : List ℕ) (a : ℕ) → 0 < getD cs a 0 → a < length cs
+left-inside cs a h = lt-of-not-le (λ l. omega (arith, List·getD-eq-default cs 0 {n = a} l))

@@ -6,9 +6,9 @@ use Prim.Native.Nat.{ℕ, zero, suc, _+_, _-_, _*_, _≤_, _<_}
 use native.Mathlib.Nat.{add-zero, mul-zero, mul-suc, suc-mul, mul-one, sub-self, sub-zero, mul-le-mul-left}
 use native.Mathlib.Decide.{decLe, le-ind}
 use native.Mathlib.Omega.{arith}
-use Rattle.numbers.specs.Sums.{range, sumOver}
+use Rattle.basics.specs.Sums.{range, sumOver}
 use Rattle.numbers.specs.Numbers.{partsFrom, partitionsOf}
-use Rattle.numbers.proofs.Ranges.{Between, between, in-range, member-le, sumOver-cong, sumOver-zero, sumOver-range-suc, sumOver-range-cut}
+use Rattle.basics.proofs.Ranges.{Between, between, in-range, member-le, sumOver-cong, sumOver-zero, sumOver-range-suc, sumOver-range-cut}
 
 pub by-last-part : (f n k : ℕ) → partsFrom f n (suc k) ≡ sumOver (range f (suc n - f)) (λ p. partsFrom p (n - p) k)
 unfolding partsFrom

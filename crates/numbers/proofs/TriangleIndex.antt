@@ -7,8 +7,8 @@ use native.Mathlib.Nat.{add-zero, zero-add, add-assoc, mul-suc, suc-mul, zero-mu
 use native.Mathlib.Omega.{arith}
 use lib.ListN.{length, getD, length-map, List·getD-append}
 use lib.Seq.{getD-append-add}
-use Rattle.numbers.specs.Sums.{range}
-use Rattle.numbers.proofs.Ranges.{length-range, getD-table}
+use Rattle.basics.specs.Sums.{range}
+use Rattle.basics.proofs.Ranges.{length-range, getD-table}
 use Rattle.numbers.proofs.Triangles.{row, flatFrom}
 
 -- how many stand in j rows from row n on, of so many each

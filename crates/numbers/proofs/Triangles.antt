@@ -2,7 +2,7 @@
 -- Assumes nothing.
 use Prim.Native.Nat.{ℕ, zero, suc}
 use mathlib.Core.List.{List, [], _++_, map}
-use Rattle.numbers.specs.Sums.{range}
+use Rattle.basics.specs.Sums.{range}
 
 unfoldable pub row : (ℕ → ℕ → ℕ) → ℕ → List ℕ
 row T n = map (T n) (range 0 (suc n))

@@ -1,4 +1,3 @@
 -- What a reader of the counts must believe: the limits of the table, and the counts as unbounded numbers.
 pub mod Limits
-pub mod Sums
 pub mod Numbers

@@ -3,7 +3,7 @@
 use Prim.Native.Nat.{ℕ, zero, suc, pred, _+_, _-_, _*_}
 use mathlib.Core.List.{List, [], _∷_}
 use lib.ListN.{getD}
-use Rattle.numbers.specs.Sums.{total, range, sumOver}
+use Rattle.basics.specs.Sums.{total, range, sumOver}
 
 -- kind 1, "k site numbers from 1 to n": n is taken or it is not, which is the addition rule of "Pascal's triangle" (SCOPE 1.1, 6.1)
 unfoldable pub choose : ℕ → ℕ → ℕ

@@ -7,7 +7,7 @@ use Prim.Native.Nat.{ℕ, zero, suc, _+_, _-_, _≤_, _<_}
 use native.Mathlib.Nat.{add-zero}
 use native.Mathlib.Omega.{arith}
 use lib.ListN.{replicate}
-use Rattle.numbers.specs.Sums.{range}
+use Rattle.basics.specs.Sums.{range}
 use Rattle.numbers.specs.Numbers.{partitionsOf}
 use Rattle.numbers.proofs.PartitionLaws.{partitions-rule, partitions-none}
 

@@ -8,7 +8,7 @@ use lib.Dec.{leb, ltb, eqb}
 use lib.ListN.{getD}
 use borrow.Author.Tests.{eqb-true, eq-eqb, leb-true, le-leb, ltb-true, lt-ltb, le-ltb}
 use Rattle.numbers.specs.Limits.{places}
-use Rattle.numbers.specs.Sums.{range}
+use Rattle.basics.specs.Sums.{range}
 use Rattle.numbers.specs.Numbers.{partsFrom, partitionsOf}
 use Rattle.partition_numbers.specs.inner.Words.{words}
 use Rattle.partition_numbers.proofs.Columns.{column, grow, holds, tests, every}

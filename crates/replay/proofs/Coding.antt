@@ -13,7 +13,7 @@ use lib.Seq.{drop-cons}
 use borrow.Author.Tests.{eq-eqb, ne-eqb, eqb-true, eqb-false, le-leb, lt-leb}
 use Rattle.listings.specs.Bytes.{Bytes}
 use Rattle.listings.specs.Calls.{Call, FIRST, Answer, Said}
-use Rattle.listings.proofs.Bools.{true-or-false}
+use Rattle.basics.proofs.Bools.{true-or-false}
 use Rattle.families.specs.declared.Family.{Family}
 use Rattle.families.specs.Table.{Lent}
 use Rattle.families.specs.Calls.{respond}

@@ -1,19 +1,19 @@
 -- What the test of set partitions says: the first model, the last model taken off and put on again by its key, and that the keys tell the blocks.
 -- Assumes nothing.
 use mathlib.Core.Path.{_≡_, refl, sym, _∙_, ap, ap₂, subst}
-use mathlib.Core.Logic.{_⊎_, inl, inr}
-use mathlib.Core.Bool.{true, _&&_}
-use mathlib.Core.List.{[], _∷_, _++_, head-eq-of-cons-eq, tail-eq-of-cons-eq, eq-nil-or-concat, concat, concat-eq-append}
+use mathlib.Core.Bool.{true, cond, _&&_}
+use mathlib.Core.List.{[], _∷_, _++_, head-eq-of-cons-eq, tail-eq-of-cons-eq}
 use Prim.Native.Nat.{ℕ, zero, suc, _+_, _≤_, _<_, max}
 use native.Mathlib.Decide.{decLt}
 use native.Mathlib.Omega.{arith}
 use lib.Dec.{leb, ltb, eqb}
-use lib.ListN.{length, length-append}
+use lib.ListN.{length, take, getD, length-append}
 use borrow.Author.Tests.{leb-true, le-leb, lt-ltb, le-ltb, eqb-true, eq-eqb}
 use Rattle.listings.specs.Bytes.{Bytes}
-use Rattle.listings.proofs.Bools.{and-true, and-makes}
-use Rattle.set_partitions.specs.Objects.{opens, isSetPartition, keyOf, keys}
-use Rattle.set_partitions.specs.inner.Keys.{othersIn, blockOf}
+use Rattle.basics.proofs.Bools.{and-true, and-makes}
+use Rattle.basics.proofs.Lists.{last-split}
+use Rattle.set_partitions.specs.Objects.{opens, isSetPartition, keys}
+use Rattle.set_partitions.specs.Listing.{othersIn, blockOf}
 
 -- the first model, with m blocks used before it
 
@@ -36,27 +36,21 @@ opens-makes m k b x from upto rest = and-makes (and-makes (le-leb 1 b from) (le-
 -- the key of a model in block b, with m blocks used before it
 
 abbrev pub keyAt : ℕ → ℕ → ℕ
-keyAt m b = keyOf (ltb m b) b
+keyAt m b = cond (ltb m b) 0 b
 
 pub key-new : (m b : ℕ) → m < b → keyAt m b ≡ 0
-unfolding keyOf
 key-new m b h = rw (lt-ltb m b h)
 
 pub key-old : (m b : ℕ) → b ≤ m → keyAt m b ≡ b
-unfolding keyOf
 key-old m b h = rw (le-ltb m b h)
 
 -- a key and the blocks used tell the block
-key-one : (m a b : ℕ) → 1 ≤ a → a ≤ suc m → 1 ≤ b → b ≤ suc m → keyAt m a ≡ keyAt m b → a ≡ b
-key-one m a b from upto from′ upto′ e = step (decLt m a) (decLt m b)
-  where
-    step : Dec (m < a) → Dec (m < b) → a ≡ b
-    step (yes p) (yes q) = omega arith
-    step (yes p) (no q) = absurd (omega (arith, e, key-new m a p, key-old m b (omega arith)))
-    step (no p) (yes q) = absurd (omega (arith, e, key-old m a (omega arith), key-new m b q))
-    step (no p) (no q) = omega (arith, e, key-old m a (omega arith), key-old m b (omega arith))
+block-told : (m b : ℕ) → 1 ≤ b → b ≤ suc m → b ≡ blockOf m (keyAt m b)
+unfolding blockOf
+block-told m zero from upto = absurd (omega arith)
+block-told m (suc b) from upto = elim (decLt m (suc b)) [ yes h ↦ rw (key-new m (suc b) h) (omega arith) | no h ↦ rw (key-old m (suc b) (omega arith)) ]
 
-pub length-keys : (m : ℕ) (x : Bytes) → length (keys m x) ≡ length x
+length-keys : (m : ℕ) (x : Bytes) → length (keys m x) ≡ length x
 unfolding keys
 length-keys m [] = refl
 length-keys m (b ∷ x) = ap suc (length-keys (max m b) x)
@@ -69,7 +63,7 @@ keys-one m j k (a ∷ x) [] o p e = absurd (omega (arith, ap length e))
 keys-one m j k (a ∷ x) (b ∷ y) o p e =
     let f = opens-cases m j a x o in
     let g = opens-cases m k b y p in
-    let q : a ≡ b = key-one m a b (f .from) (f .upto) (g .from) (g .upto) (head-eq-of-cons-eq e) in
+    let q : a ≡ b = block-told m a (f .from) (f .upto) ∙ ap (blockOf m) (head-eq-of-cons-eq e) ∙ sym (block-told m b (g .from) (g .upto)) in
     ap₂ {C = Bytes} (λ c z. c ∷ z) q (keys-one (max m a) j k x y (f .rest) (rw q (g .rest)) (tail-eq-of-cons-eq e ∙ rw q))
 
 -- the last model, in block b behind x
@@ -100,7 +94,7 @@ opens-snoc m j b (a ∷ x) e from upto =
     let f = opens-cases m j a x e in
     opens-makes m (max j b) a (x ++ (b ∷ [])) (f .from) (f .upto) (opens-snoc (max m a) j b x (f .rest) from upto)
 
-pub keys-snoc : (m j b : ℕ) (x : Bytes) → opens m j x ≡ true → keys m (x ++ (b ∷ [])) ≡ keys m x ++ (keyAt j b ∷ [])
+keys-snoc : (m j b : ℕ) (x : Bytes) → opens m j x ≡ true → keys m (x ++ (b ∷ [])) ≡ keys m x ++ (keyAt j b ∷ [])
 unfolding keys opens
 keys-snoc m j b [] e = rw (eqb-true m j e)
 keys-snoc m j b (a ∷ x) e = rw (keys-snoc (max m a) j b x (opens-cases m j a x e .rest))
@@ -134,17 +128,11 @@ pub record Ended (k : ℕ) (y : Bytes) : Type 0 where
   pub some : 1 ≤ k
 
 pub partition-ends : (n k : ℕ) (y : Bytes) → isSetPartition (suc n) k y ≡ true → Ended k y
-partition-ends n k y e = step (eq-nil-or-concat y)
-  where
-    both : (length y ≡ suc n) × (opens 0 k y ≡ true)
-    both = partition-cases (suc n) k y e
-
-    step : (y ≡ []) ⊎ ((x : Bytes) × (b : ℕ) × (y ≡ concat x b)) → Ended k y
-    step (inl q) = absurd (omega (arith, both .0, ap length q))
-    step (inr t) =
-        let q : y ≡ t .0 ++ (t .1 ∷ []) = t .2 ∙ concat-eq-append (t .0) (t .1) in
-        let l : Behind 0 k (t .1) (t .0) = opens-last 0 k (t .1) (t .0) (subst (λ z. opens 0 k z ≡ true) q (both .1)) in
-        record { front = t .0; block = t .1; whole = q; some = omega arith }
+partition-ends n k y e =
+    let both = partition-cases (suc n) k y e in
+    let q = last-split n y (both .0) in
+    let l = opens-last 0 k (getD y n 0) (take n y) (subst (λ z. opens 0 k z ≡ true) q (both .1)) in
+    record { front = take n y; block = getD y n 0; whole = q; some = omega (arith, l .from, l .all) }
 
 -- the last model by its key c, in suc k blocks
 
@@ -169,21 +157,25 @@ pub keys-put-on : (n k c : ℕ) (x : Bytes) → c ≤ suc k → isSetPartition n
 keys-put-on n k c x h e =
     keys-snoc 0 (othersIn k c) (blockOf k c) x (partition-cases n (othersIn k c) x e .1) ∙ ap (λ d. keys 0 x ++ (d ∷ [])) (keyed k c h .same)
 
+-- its key is 0 if its block is above the m that the others use, else its block
+pub record Found (m k b : ℕ) : Type 0 where
+  pub small : keyAt m b ≤ suc k
+  pub block : b ≡ blockOf k (keyAt m b)
+  pub others : m ≡ othersIn k (keyAt m b)
+
+pub key-found : (m k b : ℕ) → 1 ≤ b → b ≤ suc m → max m b ≡ suc k → Found m k b
+unfolding othersIn blockOf
+key-found m k zero from upto all = absurd (omega arith)
+key-found m k (suc b) from upto all = elim (decLt m (suc b)) [
+  | yes h ↦ (let e = key-new m (suc b) h in record { small = rw e (omega arith); block = rw e (omega arith); others = rw e (omega arith) })
+  | no h ↦ (let e = key-old m (suc b) (omega arith) in record { small = rw e (omega arith); block = rw e refl; others = rw e (omega arith) })
+]
+
 pub record Taken (n k b : ℕ) (x : Bytes) : Type 0 where
   pub key : ℕ
   pub small : key ≤ suc k
   pub block : b ≡ blockOf k key
   pub front : isSetPartition n (othersIn k key) x ≡ true
-
--- its key: 0 if its block is above all that the others use, else its block
-pub key-found : (j k b : ℕ) → 1 ≤ b → b ≤ suc j → max j b ≡ suc k → (c : ℕ) × (c ≤ suc k) × (b ≡ blockOf k c) × (j ≡ othersIn k c)
-unfolding othersIn blockOf
-key-found j k zero from upto all = absurd (omega arith)
-key-found j k (suc b) from upto all = step (decLt j (suc b))
-  where
-    step : Dec (j < suc b) → (c : ℕ) × (c ≤ suc k) × (suc b ≡ blockOf k c) × (j ≡ othersIn k c)
-    step (yes h) = (0, omega arith, omega arith, omega arith)
-    step (no h) = (suc b, omega arith, refl, omega arith)
 
 pub take-off : (n k b : ℕ) (x : Bytes) → isSetPartition (suc n) (suc k) (x ++ (b ∷ [])) ≡ true → Taken n k b x
 take-off n k b x e =
@@ -191,4 +183,4 @@ take-off n k b x e =
     let l = opens-last 0 (suc k) b x (both .1) in
     let t = key-found (l .blocks) k b (l .from) (l .upto) (l .all) in
     let long : length x + 1 ≡ suc n = rw length-append at (both .0) in
-    record { key = t .0; small = t .1; block = t .2; front = partition-makes n (othersIn k (t .0)) x (omega arith) (subst (λ j. opens 0 j x ≡ true) (t .3) (l .front)) }
+    record { key = keyAt (l .blocks) b; small = t .small; block = t .block; front = partition-makes n _ x (omega arith) (subst (λ j. opens 0 j x ≡ true) (t .others) (l .front)) }

@@ -1,49 +1,56 @@
 -- The two numbers of the last model in a band, and where in it the number of the others stands.
 -- Assumes nothing.
-use mathlib.Core.Path.{_≡_, sym, subst}
+use mathlib.Core.Path.{_≡_}
 use mathlib.Core.List.{List}
 use Prim.Native.Nat.{ℕ, zero, suc, _-_, _≤_, _<_}
 use native.Mathlib.Omega.{arith}
 use lib.ListN.{getD}
-use Rattle.numbers.specs.Numbers.{stirlingOf}
 use Rattle.stirlings.specs.inner.Band.{capacity, Reaches}
 use Rattle.stirlings.proofs.Walk.{to-alone, to-joined, row-back, number, within}
-use Rattle.set_partitions.specs.inner.Keys.{othersIn, backBy}
+use Rattle.set_partitions.specs.Listing.{othersIn}
+use Rattle.set_partitions.specs.inner.Keys.{backBy}
+use Rattle.set_partitions.proofs.Ranks.{Numbers}
 
-module _ (t : List ℕ) (w at n k : ℕ) (r : Reaches t w at n k) (some : 1 ≤ k) (fewer : k < n) where
-  alone-next : Reaches t w (at - 1) (n - 1) (k - 1)
-  alone-next = to-alone t w at n k r some (omega arith)
-
-  joined-next : Reaches t w (at - w) (n - 1) k
-  joined-next = to-joined t w at n k r fewer
-
-  pub row-before : w ≤ at
-  row-before = row-back t w at n k r fewer
-
-  pub alone-within : at - 1 < capacity
-  alone-within = within t w (at - 1) (n - 1) (k - 1) alone-next
-
-  pub joined-within : at - w < capacity
-  joined-within = within t w (at - w) (n - 1) k joined-next
-
-  pub alone-number : getD t (at - 1) 0 ≡ stirlingOf (n - 1) (k - 1)
-  alone-number = number t w (at - 1) (n - 1) (k - 1) alone-next (omega arith)
-
-  pub joined-number : getD t (at - w) 0 ≡ stirlingOf (n - 1) k
-  joined-number = number t w (at - w) (n - 1) k joined-next (omega arith)
-
+pub record InBand (t : List ℕ) (w at n k : ℕ) : Type 0 where
   pub one-before : 1 ≤ at
-  one-before = omega (arith, r .here)
+  pub row-before : w ≤ at
+  pub alone-within : at - 1 < capacity
+  pub joined-within : at - w < capacity
+  pub numbers : Numbers n k (getD t (at - 1) 0) (getD t (at - w) 0)
+  alone-next : Reaches t w (at - 1) (n - 1) (k - 1)
+  joined-next : Reaches t w (at - w) (n - 1) k
+  some : 1 ≤ k
 
-  pub back-le : (c : ℕ) → backBy w c ≤ at
+pub in-band : (t : List ℕ) (w at n k : ℕ) → 1 ≤ k → k < n → Reaches t w at n k → InBand t w at n k
+in-band t w at n k some fewer r =
+    let alone = to-alone t w at n k r some (omega arith) in
+    let joined = to-joined t w at n k r fewer in
+    record {
+      one-before = omega (arith, r .here);
+      row-before = row-back t w at n k r fewer;
+      alone-within = within t w (at - 1) (n - 1) (k - 1) alone;
+      joined-within = within t w (at - w) (n - 1) k joined;
+      numbers = (number t w (at - 1) (n - 1) (k - 1) alone (omega arith), number t w (at - w) (n - 1) k joined (omega arith));
+      alone-next = alone;
+      joined-next = joined;
+      some = some;
+    }
+
+-- so far back, by the key c, stands the number of the others
+module _ {t : List ℕ} {w at n k : ℕ} (b : InBand t w at n k) where
+  back-le : (c : ℕ) → backBy w c ≤ at
   unfolding backBy
-  back-le zero = one-before
-  back-le (suc b) = row-before
+  back-le zero = b .one-before
+  back-le (suc c) = b .row-before
 
-  others-next : (j c : ℕ) → suc j ≡ k → Reaches t w (at - backBy w c) (n - 1) (othersIn j c)
+  to-others : (c : ℕ) → Reaches t w (at - backBy w c) (n - 1) (othersIn (k - 1) c)
   unfolding othersIn backBy
-  others-next j zero e = subst (Reaches t w (at - 1) (n - 1)) (omega arith) alone-next
-  others-next j (suc b) e = subst (Reaches t w (at - w) (n - 1)) (sym e) joined-next
+  to-others zero = b .alone-next
+  to-others (suc c) = let up : suc (k - 1) ≡ k = omega (arith, b .some) in rw up (b .joined-next)
 
-  pub to-others : (c : ℕ) → Reaches t w (at - backBy w c) (n - 1) (othersIn (k - 1) c)
-  to-others c = others-next (k - 1) c (omega arith)
+  module _ (c : ℕ) {d : ℕ} (e : d ≡ backBy w c) where
+    pub back-before : d ≤ at
+    back-before = rw e (back-le c)
+
+    pub others-reached : {i : ℕ} → i ≡ othersIn (k - 1) c → Reaches t w (at - d) (n - 1) i
+    others-reached l = rw (e, l) (to-others c)

@@ -1,8 +1,8 @@
--- The keys of some models, read from the front, and those of the models in front.
+-- The keys of some models, read from the front.
 -- Assumes nothing.
-use mathlib.Core.Path.{_≡_, refl, ap}
-use mathlib.Core.List.{[], _∷_, _++_, append-assoc, append-nil}
-use Prim.Native.Nat.{ℕ, zero, suc, _+_, _<_, max}
+use mathlib.Core.Path.{_≡_}
+use mathlib.Core.List.{_∷_, _++_, append-assoc, append-nil}
+use Prim.Native.Nat.{ℕ, suc, _+_, _<_, max}
 use native.Mathlib.Numerals.{add-one}
 use native.Mathlib.Omega.{arith}
 use lib.ListN.{length, take, drop, set, getD, drop-of-length-le}
@@ -24,10 +24,3 @@ module _ (u i : ℕ) (x ks : Bytes) where
   pub all-stored : length x ≡ i → take (length x) ks ≡ take i ks ++ keys u (drop i x)
   unfolding keys
   all-stored e = rw (e, drop-of-length-le x {i = i} (omega arith), append-nil)
-
--- the keys of the first n models
-pub keys-take : (m n : ℕ) (x : Bytes) → take n (keys m x) ≡ keys m (take n x)
-unfolding keys
-keys-take m zero x = refl
-keys-take m (suc n) [] = refl
-keys-take m (suc n) (b ∷ x) = ap (λ (z : Bytes). keyAt m b ∷ z) (keys-take (max m b) n x)

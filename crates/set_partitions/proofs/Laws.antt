@@ -8,7 +8,7 @@ use Rattle.numbers.specs.Limits.{places}
 use Rattle.numbers.specs.Numbers.{stirlingOf}
 use Rattle.numbers.proofs.Positive.{stirling-some}
 use Rattle.listings.specs.Rows.{RowLaws}
-use Rattle.listings.proofs.Bools.{and-true}
+use Rattle.basics.proofs.Bools.{and-true}
 use Rattle.set_partitions.specs.Objects.{isSetPartition, setPartitionBefore}
 use Rattle.set_partitions.specs.Listing.{setPartitions}
 use Rattle.set_partitions.proofs.Theorem.{lists, long, counted}

@@ -1,18 +1,13 @@
 -- Kind 4: what the definitions mean, that the list of the set partitions is their listing, how many there are, and what the functions do by it.
 pub mod Facts
-pub mod Meaning
-pub mod KeyOrder
 pub mod Theorem
 pub mod Laws
-pub mod KeySteps
-pub mod Parts
-pub mod KeyEnds
-pub mod Fronts
-pub mod Steps
-pub mod KeyMoves
+pub mod Places
+pub mod Neighbours
+pub mod Ranks
+pub mod Unranks
+pub mod Testing
+pub mod KeyOrder
 pub mod KeyReading
-pub mod Reading
-pub mod Ranking
-pub mod Unranking
 pub mod InBand
-pub mod KeyCases
+pub mod Meaning

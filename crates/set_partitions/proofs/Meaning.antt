@@ -34,14 +34,9 @@ smallest-of (a ∷ x) (suc i) b h = step (ℕᴺ-discrete a b) (smallest-of x i 
         first (suc r) l k = s .first r (omega arith) k
 
 smallest-or-not : (x : Bytes) (i b : ℕ) → At x b i → Smallest x i b ⊎ Later x i b
-smallest-or-not x i b h = step (smallest-of x i b h)
-  where
-    step : (j : ℕ) × (j ≤ i) × Smallest x j b → Smallest x i b ⊎ Later x i b
-    step (j, near, s) = pick (decLt j i)
-      where
-        pick : Dec (j < i) → Smallest x i b ⊎ Later x i b
-        pick (yes l) = inr (record { here = h; earlier = j; before = l; there = s .here })
-        pick (no nl) = inl (subst (λ r. Smallest x r b) (omega arith) s)
+smallest-or-not x i b h =
+    let (j, near, s) = smallest-of x i b h in
+    elim (decLt j i) [ yes l ↦ inr (record { here = h; earlier = j; before = l; there = s .here }) | no nl ↦ inl (subst (λ r. Smallest x r b) (omega arith) s) ]
 
 pub smallest-or-later : (x : Bytes) (i : ℕ) → i < length x → (b : ℕ) × (Smallest x i b ⊎ Later x i b)
 smallest-or-later x i l = let (b, h) = at-exists x i l in (b, smallest-or-not x i b h)
@@ -61,11 +56,7 @@ opens-blocks m k (a ∷ x) o b h =
 
 -- a block b that is not used yet is that of the model just read, or is still not used
 this-or-unused : (m a b : ℕ) → a ≤ suc m → m < b → (a ≡ b) ⊎ (max m a < b)
-this-or-unused m a b upto above = step (decLt a b)
-  where
-    step : Dec (a < b) → (a ≡ b) ⊎ (max m a < b)
-    step (yes l) = inr (omega arith)
-    step (no nl) = inl (omega arith)
+this-or-unused m a b upto above = elim (decLt a b) [ yes l ↦ inr (omega arith) | no nl ↦ inl (omega arith) ]
 
 opens-used : (m k : ℕ) (x : Bytes) → opens m k x ≡ true → (b : ℕ) → m < b → b ≤ k → List·Memᴰ b x
 unfolding opens
@@ -95,14 +86,9 @@ means n k x e = record { models = both .0; blocks = blocks; used = λ b from upt
     blocks = opens-blocks 0 k x (both .1)
 
     numbered : (b c i j : ℕ) → b < c → Smallest x i b → Smallest x j c → i < j
-    numbered b c i j l s t = step (opens-lower 0 k x (both .1) b c j (blocks b (at-member x i (s .here)) .0) l (t .here))
-      where
-        step : (r : ℕ) × (r < j) × At x b r → i < j
-        step (r, near, h) = pick (decLt r i)
-          where
-            pick : Dec (r < i) → i < j
-            pick (yes p) = absurd (s .first r p h)
-            pick (no np) = omega arith
+    numbered b c i j l s t =
+        let (r, near, h) = opens-lower 0 k x (both .1) b c j (blocks b (at-member x i (s .here)) .0) l (t .here) in
+        elim (decLt r i) [ yes p ↦ absurd (s .first r p h) | no np ↦ omega arith ]
 
 -- what makes it true, with the blocks 1 to m used before x
 
@@ -113,11 +99,7 @@ record Remaining (m k : ℕ) (x : Bytes) : Type 0 where
   lower : (b c j : ℕ) → m < b → b < c → At x c j → (i : ℕ) × (i < j) × At x b i
 
 remaining-upto : (m k a : ℕ) (x : Bytes) → Remaining m k (a ∷ x) → a ≤ suc m
-remaining-upto m k a x r = step (decLt (suc m) a)
-  where
-    step : Dec (suc m < a) → a ≤ suc m
-    step (yes l) = absurd (omega (arith, r .lower (suc m) a 0 (omega arith) l refl .1))
-    step (no nl) = omega arith
+remaining-upto m k a x r = elim (decLt (suc m) a) [ yes l ↦ absurd (omega (arith, r .lower (suc m) a 0 (omega arith) l refl .1)) | no nl ↦ omega arith ]
 
 remaining-rest : (m k a : ℕ) (x : Bytes) → Remaining m k (a ∷ x) → Remaining (max m a) k x
 remaining-rest m k a x r =
@@ -134,11 +116,7 @@ remaining-rest m k a x r =
 
 remaining-opens : (m k : ℕ) (x : Bytes) → Remaining m k x → opens m k x ≡ true
 unfolding opens
-remaining-opens m k [] r = step (decLt m k)
-  where
-    step : Dec (m < k) → opens m k [] ≡ true
-    step (yes l) = absurd (List·Memᴰ·not-nil (r .used k l (omega arith)))
-    step (no nl) = eq-eqb m k (omega (arith, r .most))
+remaining-opens m k [] r = elim (decLt m k) [ yes l ↦ absurd (List·Memᴰ·not-nil (r .used k l (omega arith))) | no nl ↦ eq-eqb m k (omega (arith, r .most)) ]
 remaining-opens m k (a ∷ x) r =
     opens-makes m k a x (r .blocks a (List·Memᴰ·head refl) .0) (remaining-upto m k a x r) (remaining-opens (max m a) k x (remaining-rest m k a x r))
 

@@ -1,7 +1,7 @@
 -- Kind 4, set partitions ("flask sharing"): the test of being one of n models into k blocks, the keys, and the order (SCOPE 1.4, 2.4).
 -- Meaning says the test and the keys by membership and places; the theorems named below, of proofs/Meaning.antt, show that it is the same.
 -- Assumes nothing.
-use mathlib.Core.Bool.{Bool, true, false, _&&_}
+use mathlib.Core.Bool.{Bool, cond, _&&_}
 use mathlib.Core.List.{[], _∷_}
 use Prim.Native.Nat.{ℕ, suc, max}
 use lib.Dec.{leb, ltb, eqb}
@@ -20,16 +20,11 @@ opens m k (b ∷ x) = leb 1 b && leb b (suc m) && opens (max m b) k x
 unfoldable pub isSetPartition : ℕ → ℕ → Bytes → Bool
 isSetPartition n k x = eqb (length x) n && opens 0 k x
 
--- the key in a block b: a block above all used so far is a new one, and the model its smallest (`key-of-smallest`, `key-of-other`)
-unfoldable pub keyOf : Bool → ℕ → ℕ
-keyOf true b = 0
-keyOf false b = b
-
 -- "model i has key 0 if it is the smallest of its block, else its block number" (SCOPE 2.4; `key-of-smallest`, `key-of-other`;
--- each model is one of the two, `smallest-or-later`), with the blocks 1 to m used so far
+-- each model is one of the two, `smallest-or-later`), with the blocks 1 to m used so far: a block above them is a new one
 unfoldable pub keys : ℕ → Bytes → Bytes
 keys m [] = []
-keys m (b ∷ x) = keyOf (ltb m b) b ∷ keys (max m b) x
+keys m (b ∷ x) = cond (ltb m b) 0 b ∷ keys (max m b) x
 
 -- "At the largest i whose keys differ, the smaller key" (SCOPE 2.4)
 unfoldable pub setPartitionBefore : Bytes → Bytes → Bool

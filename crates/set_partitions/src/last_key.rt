@@ -3,7 +3,8 @@
 ghost use mathlib.Core.Path.{_≡_};
 ghost use Prim.Native.Nat.{_+_, _-_, _≤_, _<_, _^_};
 ghost use Rattle.numbers.specs.Limits.{places};
-ghost use Rattle.set_partitions.specs.inner.Keys.{othersIn, blockOf, earlierBy, Placed, backBy};
+ghost use Rattle.set_partitions.specs.Listing.{othersIn, blockOf};
+ghost use Rattle.set_partitions.specs.inner.Keys.{earlierBy, Placed, backBy};
 
 // The key of a partition, and its rank among those with that key.
 pub struct Place(pub u64, pub u64);

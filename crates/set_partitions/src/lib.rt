@@ -6,7 +6,7 @@ ghost use Prim.Native.Nat.{_+_, _≤_, _<_, _^_};
 ghost use lib.ListN.{length, take};
 ghost use Rattle.numbers.specs.Limits.{places, longestObject};
 ghost use Rattle.numbers.specs.Numbers.{stirlingOf};
-ghost use Rattle.numbers.specs.Sums.{range};
+ghost use Rattle.basics.specs.Sums.{range};
 ghost use Rattle.stirling_rows.specs.inner.Stored.{lastRow};
 ghost use Rattle.stirlings.specs.inner.Band.{Reaches};
 ghost use Rattle.listings.specs.Bytes.{Bytes};
@@ -19,6 +19,7 @@ ghost use Rattle.set_partitions.specs.inner.Keys.{Written, KeysOf};
 
 mod last_key;
 mod search;
+mod stepping;
 
 use last_key::back_by;
 use last_key::block_of;
@@ -30,8 +31,6 @@ use listings::copy;
 use listings::fill_up;
 use listings::fill_with;
 use numbers::LONGEST_OBJECT;
-use search::block_to_lower;
-use search::block_to_raise;
 use search::keys_of;
 use stirling_rows::LAST_ROW;
 use stirling_rows::both;
@@ -88,48 +87,22 @@ pub fn last(k: u64, object: &mut [u8])
     fill_with(&mut object[at..], k as u8);
 }
 
-// The first model whose key can go up does, and the models in front of it start over.
+// The partition just after.
 pub fn next(k: u64, object: &mut [u8]) -> Step
     requires { ⌜ length (now object) ≤ places ⌝ }
     requires { ⌜ isSetPartition (length (now object)) k (now object) ≡ true ⌝ }
     ensures { λ r. ⌜ _≡_ {A = Said} (stepAs r, now (object .exit)) (act NEXT setPartitionBefore (setPartitions (length (now (object .entry))) k) (now (object .entry))) ⌝ }
 {
-    let i = block_to_raise(object);
-    if i == object.len() {
-        return Step::End;
-    }
-    let used = object[i - 1];
-    let b = object[i];
-    if b < used {
-        object[i] = b + 1;
-        first(used as u64, &mut object[..i]);
-        return Step::Moved;
-    }
-    object[i] = 1;
-    first(used as u64 + 1, &mut object[..i]);
-    Step::Moved
+    stepping::step(true, k, object)
 }
 
-// The first model whose key can go down does, and the models in front of it become the latest.
+// The partition just before.
 pub fn previous(k: u64, object: &mut [u8]) -> Step
     requires { ⌜ length (now object) ≤ places ⌝ }
     requires { ⌜ isSetPartition (length (now object)) k (now object) ≡ true ⌝ }
     ensures { λ r. ⌜ _≡_ {A = Said} (stepAs r, now (object .exit)) (act PREVIOUS setPartitionBefore (setPartitions (length (now (object .entry))) k) (now (object .entry))) ⌝ }
 {
-    let i = block_to_lower(object);
-    if i == object.len() {
-        return Step::End;
-    }
-    let used = object[i - 1];
-    let b = object[i];
-    if 1 < b {
-        object[i] = b - 1;
-        last(used as u64, &mut object[..i]);
-        return Step::Moved;
-    }
-    object[i] = used;
-    last(used as u64 - 1, &mut object[..i]);
-    Step::Moved
+    stepping::step(false, k, object)
 }
 
 // By the keys of n models: through the rank of the partition left when the last of them is taken out. With as many blocks as models there is one

@@ -6,12 +6,14 @@ use columns::fields::Value;
 use columns::fields::field;
 use families::Family;
 ghost use mathlib.Core.Path.{_≡_};
+ghost use mathlib.Core.Bool.{cond};
+ghost use mathlib.Core.Option.{none, some};
 ghost use Prim.Native.Nat.{_+_, _*_, _≤_, min};
 ghost use lib.ListN.{length, take, drop};
 ghost use Rattle.columns.specs.Fields.{fieldWidth, field as fieldOf};
 ghost use Rattle.columns.specs.inner.Writing.{valueAs};
 ghost use Rattle.slip.specs.Grammar.{fields, countsOn, handedOn, slipWith, slipOf};
-ghost use Rattle.slip.specs.inner.Reading.{countsAs, parsedAs, AtMost};
+ghost use Rattle.slip.specs.inner.Reading.{parsedAs, AtMost};
 ghost use Rattle.slip.specs.Sizes.{mostCounts};
 
 // A well-formed slip: its family, and how many counts stand in the buffer; or a malformed one.
@@ -43,7 +45,7 @@ fn at_most_255(v: u64) -> u8
 // The counts of a line of counts.len() fields. Is every field a number?
 fn read_counts(line: &[u8], counts: &mut [u8]) -> bool
     requires { ⌜ fieldWidth * length (now counts) ≤ length (now line) ⌝ }
-    ensures { λ r. ⌜ handedOn (fields (length (now (counts .entry))) (now (line .entry))) ≡ countsAs r (now (counts .exit)) ⌝ }
+    ensures { λ r. ⌜ handedOn (fields (length (now (counts .entry))) (now (line .entry))) ≡ cond r (some (now (counts .exit))) none ⌝ }
 {
     let mut i = 0;
     while i < counts.len() {

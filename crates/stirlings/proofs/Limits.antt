@@ -12,7 +12,7 @@ use lib.ListN.{getD}
 use borrow.Author.Tests.{eqb-true, leb-true, lt-ltb}
 use Rattle.numbers.specs.Limits.{places}
 use Rattle.numbers.specs.Numbers.{stirlingOf}
-use Rattle.numbers.specs.Sums.{range}
+use Rattle.basics.specs.Sums.{range}
 use Rattle.numbers.proofs.Stirlings.{stirling-weighted}
 use Rattle.numbers.proofs.Triangles.{row}
 use Rattle.numbers.proofs.Weighted.{step}

@@ -8,7 +8,7 @@ use Rattle.numbers.specs.Limits.{places}
 use Rattle.numbers.specs.Numbers.{choose}
 use Rattle.numbers.proofs.Positive.{choose-some}
 use Rattle.listings.specs.Rows.{RowLaws}
-use Rattle.listings.proofs.Bools.{and-true}
+use Rattle.basics.proofs.Bools.{and-true}
 use Rattle.subsets.specs.Objects.{isSubset, subsetBefore}
 use Rattle.subsets.specs.Listing.{subsets}
 use Rattle.subsets.proofs.Theorem.{lists, long, counted}

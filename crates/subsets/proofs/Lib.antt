@@ -2,9 +2,8 @@
 pub mod Facts
 pub mod Theorem
 pub mod Laws
-pub mod Reading
 pub mod Places
-pub mod Moves
-pub mod Lent
-pub mod Ranking
+pub mod Neighbours
+pub mod Ranks
+pub mod Testing
 pub mod Dictionary

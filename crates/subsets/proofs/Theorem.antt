@@ -1,61 +1,48 @@
 -- The listing of subsets is all of them, each once, in their order, and as many as the binomial coefficient.
 -- Assumes nothing.
-use mathlib.Core.Path.{_≡_, refl, sym, _∙_}
-use mathlib.Core.Logic.{⊎-elim}
+use mathlib.Core.Path.{_≡_, sym, _∙_}
 use mathlib.Core.Bool.{true}
-use mathlib.Core.List.{[], _∷_, _++_, List·Memᴰ, List·Memᴰ·head, List·Memᴰ·not-nil, List·Memᴰ·append-cases, List·Memᴰ·eq-of-singleton, Memᴰ·append-left, Memᴰ·append-right, Memᴰ·cast, Memᴰ·map, Memᴰ·of-map}
+use mathlib.Core.List.{[], _∷_, _++_}
 use Prim.Native.Nat.{ℕ, zero, suc}
 use native.Mathlib.Omega.{arith}
-use lib.ListN.{length, length-append, length-map}
+use lib.Dec.{ltb}
+use lib.ListN.{length}
+use borrow.Author.Tests.{ltb-true}
+use Rattle.basics.specs.Sums.{range}
+use Rattle.basics.proofs.Ranges.{between}
 use Rattle.numbers.specs.Numbers.{choose}
+use Rattle.numbers.proofs.Laws.{choose-zero, choose-sum}
 use Rattle.listings.specs.Bytes.{Bytes}
-use Rattle.listings.specs.Listings.{Ascending, none, more, Listing}
-use Rattle.listings.proofs.AscendingRules.{ascending-append, ascending-map}
-use Rattle.listings.proofs.OrderFacts.{colex-strict, earlier-front}
+use Rattle.listings.specs.Listings.{Listing}
+use Rattle.listings.proofs.AscendingRules.{ascending-range}
+use Rattle.listings.proofs.ChoiceRules.{one-rule, choice-rule, counted-choice}
+use Rattle.listings.proofs.OrderFacts.{colex-strict, smaller-last, earlier-front}
 use Rattle.subsets.specs.Objects.{isSubset, subsetBefore}
 use Rattle.subsets.specs.Listing.{subsets}
-use Rattle.subsets.proofs.Facts.{subset-cases, subset-wider, no-numbers, is-empty, put-on, topped, by-top, without-first}
+use Rattle.subsets.proofs.Facts.{subset-cases, no-numbers, is-empty, take-off, put-on}
 
 pub long : (n k : ℕ) (x : Bytes) → isSubset n k x ≡ true → length x ≡ k
 long n k x e = subset-cases n k x e .0
 
-pub counted : (n k : ℕ) → length (subsets n k) ≡ choose n k
-unfolding subsets choose
-counted n zero = refl
-counted zero (suc k) = refl
-counted (suc n) (suc k) = rw (length-append, length-map) (omega (arith, counted n k, counted n (suc k)))
-
-every : (n k : ℕ) (x : Bytes) → isSubset n k x ≡ true → List·Memᴰ x (subsets n k)
-unfolding subsets
-every n zero x e = List·Memᴰ·head (is-empty n x e)
-every zero (suc k) x e = absurd (let t = topped zero k x e in omega arith)
-every (suc n) (suc k) x e =
-    ⊎-elim (λ o. Memᴰ·append-left _ (every n (suc k) x o))
-    (λ r. Memᴰ·append-right (subsets n (suc k)) (Memᴰ·cast (r .1) (Memᴰ·map (λ y. y ++ (suc n ∷ [])) (every n k (r .0) (r .2)))))
-    (by-top n k x e)
-
-only : (n k : ℕ) (x : Bytes) → List·Memᴰ x (subsets n k) → isSubset n k x ≡ true
-unfolding subsets
-only n zero x m = rw (List·Memᴰ·eq-of-singleton m) (no-numbers n)
-only zero (suc k) x m = absurd (List·Memᴰ·not-nil m)
-only (suc n) (suc k) x m =
-    ⊎-elim (λ later. subset-wider n (suc n) (suc k) x (omega arith) (only n (suc k) x later))
-    (λ later. let r = Memᴰ·of-map (λ y. y ++ (suc n ∷ [])) (subsets n k) later in rw (r .2) at (put-on (suc n) k n (r .0) (omega arith) (only n k (r .0) (r .1))))
-    (List·Memᴰ·append-cases (subsets n (suc k)) m)
-
-ascends : (n k : ℕ) → Ascending subsetBefore (subsets n k)
-unfolding subsets
-ascends n zero = more (λ y m. absurd (List·Memᴰ·not-nil m)) none
-ascends zero (suc k) = none
-ascends (suc n) (suc k) =
-    ascending-append (ascends n (suc k))
-    (ascending-map (λ x. x ++ (suc n ∷ [])) (λ x y p q. earlier-front x y (suc n) (long n k x (only n k x p) ∙ sym (long n k y (only n k y q)))) (ascends n k))
-    (λ x y p q. let r = Memᴰ·of-map (λ z. z ++ (suc n ∷ [])) (subsets n k) q in rw (r .2) at (without-first n k x (r .0) (only n (suc k) x p) (only n k (r .0) (r .1))))
-
 pub lists : (n k : ℕ) → Listing (isSubset n k) subsetBefore (subsets n k)
-lists n k = record {
-  order = colex-strict (isSubset n k) k (long n k);
-  every = every n k;
-  only = only n k;
-  ascending = ascends n k;
-}
+unfolding subsets
+lists n zero = one-rule (colex-strict (isSubset n 0) 0 (long n 0)) [] (no-numbers n) (is-empty n)
+lists n (suc k) =
+    choice-rule (λ m. subsets m k) (λ m x. x ++ (suc m ∷ []))
+    (record {
+      objectOf = λ m. isSubset m k;
+      ltOf = λ m. subsetBefore;
+      ltc = ltb;
+      order = colex-strict (isSubset n (suc k)) (suc k) (long n (suc k));
+      rising = ascending-range 0 n;
+      parts = λ m i. lists m k;
+      off = take-off n k;
+      on = λ m x i o. put-on n k m x (omega (arith, between 0 n i)) o;
+      less = λ l m x y i j h o p. smaller-last x y (suc l) (suc m) (long l k x o ∙ sym (long m k y p)) (omega (arith, ltb-true l m h));
+      tie = λ m x y i o p h. earlier-front x y (suc m) (long m k x o ∙ sym (long m k y p)) h;
+    })
+
+pub counted : (n k : ℕ) → length (subsets n k) ≡ choose n k
+unfolding subsets
+counted n zero = sym (choose-zero n)
+counted n (suc k) = counted-choice (range 0 n) (λ m. subsets m k) (λ m x. x ++ (suc m ∷ [])) (λ m i. counted m k) ∙ choose-sum n k

@@ -13,13 +13,13 @@ ghost use Rattle.subsets.specs.Listing.{subsets};
 
 mod search;
 
+use basics::wide;
 use binomials::coefficient;
 use listings::Step;
 use listings::fill_up;
 use search::largest_top;
 use search::number_to_lower;
 use search::number_to_raise;
-use search::wide;
 
 // Does the slice hold a subset of k out of 1 to n?
 pub fn is_object(n: u64, k: u64, object: &[u8]) -> bool

@@ -5,13 +5,8 @@ ghost use Prim.Native.Nat.{ℕ, suc, _+_, _≤_, _<_, _^_};
 ghost use lib.ListN.{length, getD};
 ghost use Rattle.numbers.specs.Limits.{places};
 ghost use Rattle.numbers.specs.Numbers.{choose};
+use basics::wide;
 use binomials::coefficient;
-
-pub fn wide(b: u8) -> u64
-    ensures { λ r. ⌜ r ≡ b ⌝ }
-{
-    b as u64
-}
 
 // The first place whose number leaves room below the next (below n + 1 at the last place), or the length.
 pub fn number_to_raise(n: u64, object: &[u8]) -> usize

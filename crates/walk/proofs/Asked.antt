@@ -1,7 +1,7 @@
 -- What a step of a walk is asked, after RANK's questions the number kept: when it passes, what was asked then, and the first question missed.
 -- Assumes nothing.
 use mathlib.Core.Path.{_≡_, refl, sym, _∙_}
-use mathlib.Core.Bool.{Bool, true, false}
+use mathlib.Core.Bool.{Bool, true, false, cond}
 use mathlib.Core.Option.{Option, none, some, Option·some-ne-none}
 use mathlib.Core.List.{List, [], _∷_, _++_}
 use Prim.Native.Nat.{ℕ, _≤_, _<_, _^_}
@@ -10,7 +10,7 @@ use native.Mathlib.Decide.{decLt}
 use lib.Dec.{ltb, eqb}
 use borrow.Author.Tests.{lt-ltb, le-ltb, ltb-true, ne-eqb}
 use Rattle.numbers.specs.Limits.{longestObject}
-use Rattle.listings.specs.Calls.{RANK, Question, orElse, firstNo}
+use Rattle.listings.specs.Calls.{RANK, Question, firstNo}
 use Rattle.families.specs.declared.Family.{Family}
 use Rattle.families.specs.Table.{Lent}
 use Rattle.families.specs.Families.{always, objectLength, countOf}
@@ -31,8 +31,7 @@ last-yes l q e = go (firstNo l) refl
     go (some p) h = after-no l (q ∷ []) h ∙ sym h
 
 -- a no before others is the first
-same-no : (t : Bool) (p : ℕ) (later : Option ℕ) {q : ℕ} → orElse t p none ≡ some q → orElse t p later ≡ some q
-unfolding orElse
+same-no : (t : Bool) (p : ℕ) (later : Option ℕ) {q : ℕ} → cond t none (some p) ≡ some q → cond t later (some p) ≡ some q
 same-no true p later {q} e = absurd (Option·some-ne-none q (sym e))
 same-no false p later e = e
 
@@ -128,12 +127,12 @@ module _ (f : Family) (b : Lent) (size : ℕ) (holds : Bool) where
     then e = after-pass (opening RANK f b) (closingFor RANK (countOf f b) (objectLength f b) size holds) opens ∙ e
 
     pub size-missed : rankRefusal 0 (countOf f b) ≡ none → longestObject < size → refusal RANK f b size holds ≡ some 6
-    unfolding closingFor put asked isIn firstNo orElse
+    unfolding closingFor put asked isIn firstNo
     size-missed e large =
         let fits = both-pass 0 (countOf f b) e .1 in
         let other : eqb size (objectLength f b) ≡ false = ne-eqb size (objectLength f b) (λ s. omega (arith, short f b (opened f b RANK opens), s)) in
         then (rw (lt-ltb (countOf f b) (2 ^ 64) fits, other))
 
     pub count-missed : {q : ℕ} → rankRefusal 0 (countOf f b) ≡ some q → refusal RANK f b size holds ≡ some q
-    unfolding rankRefusal closingFor put asked isIn firstNo orElse
+    unfolding rankRefusal closingFor put asked isIn firstNo
     count-missed e = then (same-no (ltb (countOf f b) (2 ^ 64)) 5 _ (rw (lt-ltb 0 (countOf f b) some-there) at e))

@@ -9,13 +9,13 @@ use lib.Dec.{leb, eqb}
 use lib.ListN.{length, getD}
 use borrow.Author.Tests.{eqb-true}
 use Rattle.numbers.specs.Limits.{places}
-use Rattle.numbers.specs.Sums.{total}
+use Rattle.basics.specs.Sums.{total}
 use Rattle.listings.specs.Bytes.{Bytes}
 use Rattle.listings.specs.Rows.{Row}
-use Rattle.listings.proofs.Bools.{and-true}
+use Rattle.basics.proofs.Bools.{and-true}
 use Rattle.anagrams.specs.Objects.{occurrences, tallies, isAnagram}
 use Rattle.families.specs.declared.Family.{Family}
-use Rattle.families.specs.Table.{Lent, noCounts, subsetRow, anagramRow, permutationRow, setPartitionRow, integerPartitionRow, dyckWordRow, noRow, table}
+use Rattle.families.specs.Table.{Lent, noCounts, anagramRow, noRow, table}
 use Rattle.families.specs.Families.{row, allowed, isObject}
 use Rattle.families.proofs.FamilyFacts.{fitting}
 use Rattle.families.proofs.Going.{empty}
@@ -49,7 +49,7 @@ without b c p q = same-lent b c (is-empty c q ∙ sym (is-empty b p))
 
 -- where they are those of n letters
 with-letters : (f : Family) (b c : Lent) → One b c (anagramRow f b) (anagramRow f c)
-unfolding anagramRow isAnagram
+unfolding isAnagram
 with-letters f b c x fits-b fits-c in-b in-c =
     same-lent b c (tallied 1 (c .counts) (b .counts) x (letters c in-c) (letters b in-b) (many c fits-c ∙ sym (many b fits-b)))
   where
@@ -65,7 +65,7 @@ data Rows (b c : Lent) : List Row → List Row → Type 0 where
   more : {r s : Row} {l m : List Row} → One b c r s → Rows b c l m → Rows b c (r ∷ l) (s ∷ m)
 
 one-in-rows : (f : Family) (b c : Lent) → Rows b c (table f b) (table f c)
-unfolding table noRow subsetRow permutationRow setPartitionRow integerPartitionRow dyckWordRow
+unfolding noRow
 one-in-rows f b c =
     more (λ x p q o. absurd (false≢true o))
     (more (λ x p q o w. without b c p q)

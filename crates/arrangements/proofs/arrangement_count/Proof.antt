@@ -10,21 +10,6 @@ use Rattle.arrangements.proofs.Telling.{answering, valuing, refusing}
 use Rattle.arrangements.proofs.arrangement_count.Statement.{statement}
 use Rattle.arrangements.proofs.arrangement_count.Tie as tie
 
-by-value-requires : tie.Need-by-value-requires
-by-value-requires c κs = search needs
-
-count-requires : tie.Need-count-requires
-count-requires c κs = search needs
-
-enum-known-answer : tie.Need-enum-known-answer
-enum-known-answer c = search needs
-
-enum-known-answer-2 : tie.Need-enum-known-answer-2
-enum-known-answer-2 c = search needs
-
-plain-requires : tie.Need-plain-requires
-plain-requires c κs = search needs
-
 returns : tie.Need-returns
 unfolding plain codeOf valueOf
 returns c = valuing (c .before .before .before .before .before .args .value .now) (ap countedAs (c .before .answer .given .1)) (answering (c .before .before .before .before .by-value .ensures) _ COUNT _ (c .before .before .before .count .ensures))
@@ -33,4 +18,13 @@ returns-2 : tie.Need-returns-2
 returns-2 c = refusing (c .before .before .before .before .before .before .args .value .now) (ap countedAs (c .before .before .answer2 .given .1)) (answering (c .before .before .before .before .before .by-value .ensures) _ COUNT _ (c .before .before .before .before .count .ensures)) refl (c .plain .ensures)
 
 pub arrangement-count-spec : {M : Type 1} → statement M
-arrangement-count-spec = tie.close (tie.spec by-value-requires count-requires enum-known-answer enum-known-answer-2 plain-requires returns returns-2)
+arrangement-count-spec =
+    tie.close
+    (tie.spec
+    (λ c κs. search needs)
+    (λ c κs. search needs)
+    (λ c. search needs)
+    (λ c. search needs)
+    (λ c κs. search needs)
+    returns
+    returns-2)

@@ -6,23 +6,16 @@ use Rattle.arrangements.proofs.Telling.{telling}
 use Rattle.arrangements.proofs.arrangement_first.Statement.{statement}
 use Rattle.arrangements.proofs.arrangement_first.Tie as tie
 
-by-value-requires : tie.Need-by-value-requires
-by-value-requires c κs = search needs
-
-first-requires : tie.Need-first-requires
-first-requires c κs = search needs
-
-written-requires : tie.Need-written-requires
-written-requires c κs = search needs
-
-plain-requires : tie.Need-plain-requires
-plain-requires c κs = search needs
-
-same-length : tie.Need-same-length
-same-length c = search needs
-
 returns : tie.Need-returns
 returns c = telling (c .before .before .before .before .before .before .by-value .ensures) _ FIRST _ (c .before .before .before .before .first .ensures) (c .before .written .ensures) (c .plain .ensures)
 
 pub arrangement-first-spec : {M : Type 1} → statement M
-arrangement-first-spec = tie.close (tie.spec by-value-requires first-requires written-requires plain-requires same-length returns)
+arrangement-first-spec =
+    tie.close
+    (tie.spec
+    (λ c κs. search needs)
+    (λ c κs. search needs)
+    (λ c κs. search needs)
+    (λ c κs. search needs)
+    (λ c. search needs)
+    returns)

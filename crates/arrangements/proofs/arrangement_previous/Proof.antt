@@ -6,23 +6,16 @@ use Rattle.arrangements.proofs.Telling.{telling}
 use Rattle.arrangements.proofs.arrangement_previous.Statement.{statement}
 use Rattle.arrangements.proofs.arrangement_previous.Tie as tie
 
-by-value-requires : tie.Need-by-value-requires
-by-value-requires c κs = search needs
-
-previous-requires : tie.Need-previous-requires
-previous-requires c κs = search needs
-
-stepped-requires : tie.Need-stepped-requires
-stepped-requires c κs = search needs
-
-plain-requires : tie.Need-plain-requires
-plain-requires c κs = search needs
-
-same-length : tie.Need-same-length
-same-length c = search needs
-
 returns : tie.Need-returns
 returns c = telling (c .before .before .before .before .before .before .by-value .ensures) _ PREVIOUS _ (c .before .before .before .before .previous .ensures) (c .before .stepped .ensures) (c .plain .ensures)
 
 pub arrangement-previous-spec : {M : Type 1} → statement M
-arrangement-previous-spec = tie.close (tie.spec by-value-requires previous-requires stepped-requires plain-requires same-length returns)
+arrangement-previous-spec =
+    tie.close
+    (tie.spec
+    (λ c κs. search needs)
+    (λ c κs. search needs)
+    (λ c κs. search needs)
+    (λ c κs. search needs)
+    (λ c. search needs)
+    returns)

@@ -6,23 +6,16 @@ use Rattle.arrangements.proofs.Telling.{telling}
 use Rattle.arrangements.proofs.arrangement_unrank.Statement.{statement}
 use Rattle.arrangements.proofs.arrangement_unrank.Tie as tie
 
-by-value-requires : tie.Need-by-value-requires
-by-value-requires c κs = search needs
-
-unrank-requires : tie.Need-unrank-requires
-unrank-requires c κs = search needs
-
-written-requires : tie.Need-written-requires
-written-requires c κs = search needs
-
-plain-requires : tie.Need-plain-requires
-plain-requires c κs = search needs
-
-same-length : tie.Need-same-length
-same-length c = search needs
-
 returns : tie.Need-returns
 returns c = telling (c .before .before .before .before .before .before .by-value .ensures) _ (UNRANK (c .before .before .before .before .before .before .before .before .args .rank)) _ (c .before .before .before .before .unrank .ensures) (c .before .written .ensures) (c .plain .ensures)
 
 pub arrangement-unrank-spec : {M : Type 1} → statement M
-arrangement-unrank-spec = tie.close (tie.spec by-value-requires unrank-requires written-requires plain-requires same-length returns)
+arrangement-unrank-spec =
+    tie.close
+    (tie.spec
+    (λ c κs. search needs)
+    (λ c κs. search needs)
+    (λ c κs. search needs)
+    (λ c κs. search needs)
+    (λ c. search needs)
+    returns)

@@ -6,11 +6,5 @@ use borrow.Author.Needs.{needs}
 use Rattle.arrangements.proofs.by_value.Statement.{statement}
 use Rattle.arrangements.proofs.by_value.Tie as tie
 
-element-copy-out-counts : tie.Need-element-copy-out-counts
-element-copy-out-counts c = search needs
-
-returns : tie.Need-returns
-returns c = rw (← List·getD-map now (now (c .before .args .lists)) 0 _)
-
 pub by-value-spec : {M : Type 1} → statement M
-by-value-spec = tie.close (tie.spec element-copy-out-counts returns)
+by-value-spec = tie.close (tie.spec (λ c. search needs) (λ c. rw (← List·getD-map now (now (c .before .args .lists)) 0 _)))

@@ -14,8 +14,5 @@ returns-2 : tie.Need-returns-2
 unfolding plain
 returns-2 c = sym (ap plain (c .if2 .taken))
 
-returns-3 : tie.Need-returns-3
-returns-3 c = others _ (c .before .if1 .left) (c .if2 .left)
-
 pub plain-spec : {M : Type 1} → statement M
-plain-spec = tie.close (tie.spec returns returns-2 returns-3)
+plain-spec = tie.close (tie.spec returns returns-2 (λ c. others _ (c .before .if1 .left) (c .if2 .left)))

@@ -16,21 +16,9 @@ Inv-loop n k odd₀ twos₀ i₀ odd twos i = (i ≤ 2) × ((odd ≡ oddBelow n 
 abbrev μ-loop : tie.MeasureT-loop
 μ-loop n k odd₀ twos₀ i₀ odd twos i = 2 - i
 
-returns : tie.Need-returns Inv-loop μ-loop
-returns c = sym (choose-none (c .before .args .n) (c .before .args .k) (c .if1 .taken))
-
 loop-holds : tie.Need-loop-holds Inv-loop μ-loop
 unfolding oddBelow twosBelow
 loop-holds c = (omega arith, (refl, refl))
-
-number-at-requires : tie.Need-number-at-requires Inv-loop μ-loop
-number-at-requires c κs = search needs
-
-parts-of-requires : tie.Need-parts-of-requires Inv-loop μ-loop
-parts-of-requires c κs = search needs
-
-low-requires : tie.Need-low-requires Inv-loop μ-loop
-low-requires c κs = search needs
 
 -- in the last turn
 at-last : (c : tie.After-struct-known Inv-loop μ-loop) → Last (c .before .before .before .before .before .before .before .args .n) (c .before .before .before .before .before .before .before .args .k) (c .before .before .before .before .before .loop .odd) (c .before .before .before .before .before .loop .twos) (c .before .before .before .parts-of .result)
@@ -39,18 +27,6 @@ at-last c =
     let k = c .before .before .before .before .before .before .before .args .k in
     let l = c .before .before .before .before .before .loop in
     last n k (l .i) (omega arith) (omega arith) (c .before .before .before .before .before .before .before .pre .1) (c .before .before .if2 .taken) (asked n k (l .i) (c .before .before .before .before .number-at .ensures) (c .before .before .before .parts-of .ensures)) (l .inv .1 .0) (l .inv .1 .1)
-
-sub-result : tie.Need-sub-result Inv-loop μ-loop
-sub-result c = at-last c .fewer
-
-shl-result : tie.Need-shl-result Inv-loop μ-loop
-shl-result c = at-last c .few
-
-returns-2 : tie.Need-returns-2 Inv-loop μ-loop
-returns-2 c = at-last c .made (c .before .low .ensures)
-
-low-requires-2 : tie.Need-low-requires-2 Inv-loop μ-loop
-low-requires-2 c κs = search needs
 
 -- in the others
 at-turn : (c : tie.After-struct-known2 Inv-loop μ-loop) → Asked (c .before .before .before .before .before .before .before .args .n) (c .before .before .before .before .before .before .before .args .k) (c .before .before .before .before .before .loop .i) (c .before .before .before .parts-of .result)
@@ -62,12 +38,6 @@ more-twos c = twos-step (c .before .before .before .before .before .before .befo
 add-twos : tie.Need-add-twos Inv-loop μ-loop
 add-twos c = record { fits = omega (arith, twos-fit (c .before .before .before .before .before .before .before .args .n) (c .before .before .before .before .before .before .before .args .k) (c .before .before .before .before .before .loop .i) (c .before .before .before .before .before .loop .twos) (c .before .before .before .parts-of .result .2) (omega arith) (omega arith) (omega arith) (more-twos c)) }
 
-add-i : tie.Need-add-i Inv-loop μ-loop
-add-i c = search needs
-
-loop-less : tie.Need-loop-less Inv-loop μ-loop
-loop-less c = search needs
-
 loop-again : tie.Need-loop-again Inv-loop μ-loop
 loop-again c = (omega arith, (odd-step (c .before .before .before .before .before .before .before .args .n) (c .before .before .before .before .before .before .before .args .k) (c .before .before .before .before .before .loop .i) (at-turn c) (c .before .before .before .before .before .loop .inv .1 .0) (c .before .low2 .ensures), more-twos c))
 
@@ -77,16 +47,16 @@ coefficient-spec =
     (tie.spec
     Inv-loop
     μ-loop
-    returns
+    (λ c. sym (choose-none (c .before .args .n) (c .before .args .k) (c .if1 .taken)))
     loop-holds
-    number-at-requires
-    parts-of-requires
-    low-requires
-    sub-result
-    shl-result
-    returns-2
-    low-requires-2
+    (λ c κs. search needs)
+    (λ c κs. search needs)
+    (λ c κs. search needs)
+    (λ c. at-last c .fewer)
+    (λ c. at-last c .few)
+    (λ c. at-last c .made (c .before .low .ensures))
+    (λ c κs. search needs)
     add-twos
-    add-i
-    loop-less
+    (λ c. search needs)
+    (λ c. search needs)
     loop-again)

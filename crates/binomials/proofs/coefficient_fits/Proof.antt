@@ -10,15 +10,6 @@ use borrow.Author.Needs.{needs}
 use Rattle.binomials.proofs.coefficient_fits.Statement.{statement}
 use Rattle.binomials.proofs.coefficient_fits.Tie as tie
 
-returns : tie.Need-returns
-returns c = ap (λ (v : ℕ). ltb v (2 ^ 64)) (sym (choose-none (c .before .args .n) (c .before .args .k) (c .if1 .taken)))
-
-returns-2 : tie.Need-returns-2
-returns-2 c = early (c .before .before .args .n) (c .before .before .args .k) (c .before .before .pre) (omega arith) (c .if2 .taken)
-
-last-column-requires : tie.Need-last-column-requires
-last-column-requires c κs = search needs
-
 returns-3 : tie.Need-returns-3
 returns-3 c = on-the-left (c .before .before .before .before .args .n) (c .before .before .before .before .args .k) (c .before .before .before .before .pre) (omega arith) (omega arith) (c .before .last-column .ensures) (c .if3 .taken)
 
@@ -27,4 +18,10 @@ returns-4 c = on-the-right (c .before .before .before .before .args .n) (c .befo
 
 pub coefficient-fits-spec : {M : Type 1} → statement M
 coefficient-fits-spec =
-    tie.close (tie.spec returns returns-2 last-column-requires returns-3 returns-4)
+    tie.close
+    (tie.spec
+    (λ c. ap (λ (v : ℕ). ltb v (2 ^ 64)) (sym (choose-none (c .before .args .n) (c .before .args .k) (c .if1 .taken))))
+    (λ c. early (c .before .before .args .n) (c .before .before .args .k) (c .before .before .pre) (omega arith) (c .if2 .taken))
+    (λ c κs. search needs)
+    returns-3
+    returns-4)

@@ -17,15 +17,15 @@ returns : tie.Need-returns
 unfolding numberAt
 returns c = rw (c .if1 .taken)
 
-sub-result : tie.Need-sub-result
-sub-result c = search needs
-
 returns-2 : tie.Need-returns-2
 unfolding numberAt
 returns-2 c = rw (c .if2 .taken)
 
-returns-3 : tie.Need-returns-3
-returns-3 c = third (c .before .before .args .n) (c .before .before .args .k) (c .before .before .args .i) (c .before .if1 .left) (c .if2 .left)
-
 pub number-at-spec : {M : Type 1} → statement M
-number-at-spec = tie.close (tie.spec returns sub-result returns-2 returns-3)
+number-at-spec =
+    tie.close
+    (tie.spec
+    returns
+    (λ c. search needs)
+    returns-2
+    (λ c. third (c .before .before .args .n) (c .before .before .args .k) (c .before .before .args .i) (c .before .if1 .left) (c .if2 .left)))

@@ -27,186 +27,39 @@ abbrev put-column-below : ℕ → In 1 put-column-kinds.ps
 put-column-below t =
     and 1 put-column-kinds.ps (falls 1 put-column-kinds.ps _<_ μ-put-column t) put-column.Pre
 
-put-column-returns : (t : ℕ) → put-column-lts.Need-returns (
-  put-blanks-reads.Asked,
-  put-blanks-reads.Learnt,
-  put-byte-reads.Asked,
-  put-byte-reads.Learnt,
-  put-column-below t,
-  put-column.Post,
-) (put-column-at t) put-column.Post
+abbrev claims : ℕ → put-column-lts.Claims
+claims t = (put-blanks-reads.Asked, put-blanks-reads.Learnt, put-byte-reads.Asked, put-byte-reads.Learnt, put-column-below t, put-column.Post)
+
+put-column-returns : (t : ℕ) → put-column-lts.Need-returns (claims t) (put-column-at t) put-column.Post
 unfolding column
 put-column-returns t c = (omega arith, rw (c .if1 .taken) (wrote-nothing (c .before .before .args .out .now) (c .before .before .args .at)))
 
-put-column-sub-put-blanks : (t : ℕ) → put-column-lts.Need-sub-put-blanks (
-  put-blanks-reads.Asked,
-  put-blanks-reads.Learnt,
-  put-byte-reads.Asked,
-  put-byte-reads.Learnt,
-  put-column-below t,
-  put-column.Post,
-) (put-column-at t) put-column.Post
-put-column-sub-put-blanks t c = search needs
-
-put-column-put-blanks-requires : (t : ℕ) → put-column-lts.Need-put-blanks-requires (
-  put-blanks-reads.Asked,
-  put-blanks-reads.Learnt,
-  put-byte-reads.Asked,
-  put-byte-reads.Learnt,
-  put-column-below t,
-  put-column.Post,
-) (put-column-at t) put-column.Post
-put-column-put-blanks-requires t c κs = search needs
-
-put-column-cast-put-byte : (t : ℕ) → put-column-lts.Need-cast-put-byte (
-  put-blanks-reads.Asked,
-  put-blanks-reads.Learnt,
-  put-byte-reads.Asked,
-  put-byte-reads.Learnt,
-  put-column-below t,
-  put-column.Post,
-) (put-column-at t) put-column.Post
-put-column-cast-put-byte t c = search needs
-
-put-column-add-put-byte : (t : ℕ) → put-column-lts.Need-add-put-byte (
-  put-blanks-reads.Asked,
-  put-blanks-reads.Learnt,
-  put-byte-reads.Asked,
-  put-byte-reads.Learnt,
-  put-column-below t,
-  put-column.Post,
-) (put-column-at t) put-column.Post
-put-column-add-put-byte t c = search needs
-
-put-column-put-byte-requires : (t : ℕ) → put-column-lts.Need-put-byte-requires (
-  put-blanks-reads.Asked,
-  put-blanks-reads.Learnt,
-  put-byte-reads.Asked,
-  put-byte-reads.Learnt,
-  put-column-below t,
-  put-column.Post,
-) (put-column-at t) put-column.Post
-put-column-put-byte-requires t c κs = search needs
-
-put-column-same-length : (t : ℕ) → put-column-lts.Need-same-length (
-  put-blanks-reads.Asked,
-  put-blanks-reads.Learnt,
-  put-byte-reads.Asked,
-  put-byte-reads.Learnt,
-  put-column-below t,
-  put-column.Post,
-) (put-column-at t) put-column.Post
-put-column-same-length t c = search needs
-
-put-column-returns-2 : (t : ℕ) → put-column-lts.Need-returns-2 (
-  put-blanks-reads.Asked,
-  put-blanks-reads.Learnt,
-  put-byte-reads.Asked,
-  put-byte-reads.Learnt,
-  put-column-below t,
-  put-column.Post,
-) (put-column-at t) put-column.Post
+put-column-returns-2 : (t : ℕ) → put-column-lts.Need-returns-2 (claims t) (put-column-at t) put-column.Post
 put-column-returns-2 t c = (
   omega arith,
   rw (column-digit (c .before .before .before .before .before .before .before .before .before .before .before .args .width) (c .before .before .before .before .before .before .before .before .before .before .before .args .n) (c .before .before .before .before .before .before .before .before .before .if1 .left) (c .before .before .before .before .before .before .before .before .if2 .taken)) (then (c .before .before .before .before .before .before .put-blanks .ensures .1) (c .before .before .put-byte .ensures .1)),
 )
 
-put-column-sub-put-column : (t : ℕ) → put-column-lts.Need-sub-put-column (
-  put-blanks-reads.Asked,
-  put-blanks-reads.Learnt,
-  put-byte-reads.Asked,
-  put-byte-reads.Learnt,
-  put-column-below t,
-  put-column.Post,
-) (put-column-at t) put-column.Post
-put-column-sub-put-column t c = search needs
-
-put-column-put-column-requires : (t : ℕ) → put-column-lts.Need-put-column-requires (
-  put-blanks-reads.Asked,
-  put-blanks-reads.Learnt,
-  put-byte-reads.Asked,
-  put-byte-reads.Learnt,
-  put-column-below t,
-  put-column.Post,
-) (put-column-at t) put-column.Post
-put-column-put-column-requires t c κs = search needs
-
-put-column-cast-put-byte-2 : (t : ℕ) → put-column-lts.Need-cast-put-byte-2 (
-  put-blanks-reads.Asked,
-  put-blanks-reads.Learnt,
-  put-byte-reads.Asked,
-  put-byte-reads.Learnt,
-  put-column-below t,
-  put-column.Post,
-) (put-column-at t) put-column.Post
-put-column-cast-put-byte-2 t c = search needs
-
-put-column-add-put-byte-2 : (t : ℕ) → put-column-lts.Need-add-put-byte-2 (
-  put-blanks-reads.Asked,
-  put-blanks-reads.Learnt,
-  put-byte-reads.Asked,
-  put-byte-reads.Learnt,
-  put-column-below t,
-  put-column.Post,
-) (put-column-at t) put-column.Post
-put-column-add-put-byte-2 t c = search needs
-
-put-column-put-byte-requires-2 : (t : ℕ) → put-column-lts.Need-put-byte-requires-2 (
-  put-blanks-reads.Asked,
-  put-blanks-reads.Learnt,
-  put-byte-reads.Asked,
-  put-byte-reads.Learnt,
-  put-column-below t,
-  put-column.Post,
-) (put-column-at t) put-column.Post
-put-column-put-byte-requires-2 t c κs = search needs
-
-put-column-same-length-2 : (t : ℕ) → put-column-lts.Need-same-length-2 (
-  put-blanks-reads.Asked,
-  put-blanks-reads.Learnt,
-  put-byte-reads.Asked,
-  put-byte-reads.Learnt,
-  put-column-below t,
-  put-column.Post,
-) (put-column-at t) put-column.Post
-put-column-same-length-2 t c = search needs
-
-put-column-returns-3 : (t : ℕ) → put-column-lts.Need-returns-3 (
-  put-blanks-reads.Asked,
-  put-blanks-reads.Learnt,
-  put-byte-reads.Asked,
-  put-byte-reads.Learnt,
-  put-column-below t,
-  put-column.Post,
-) (put-column-at t) put-column.Post
+put-column-returns-3 : (t : ℕ) → put-column-lts.Need-returns-3 (claims t) (put-column-at t) put-column.Post
 put-column-returns-3 t c = (
   omega arith,
   rw (column-digits (c .before .before .before .before .before .before .before .before .before .before .before .args .width) (c .before .before .before .before .before .before .before .before .before .before .before .args .n) (c .before .before .before .before .before .before .before .before .before .if1 .left) (c .before .before .before .before .before .before .before .before .if2 .left)) (then (c .before .before .before .before .before .before .put-column .ensures .1) (c .before .before .put-byte2 .ensures .1)),
 )
 
 pub +put-column-spec : {M : Type 1} → statement M
-+put-column-spec = close μ-put-column λ t. put-column-lts.spec (
-  put-blanks-reads.Asked,
-  put-blanks-reads.Learnt,
-  put-byte-reads.Asked,
-  put-byte-reads.Learnt,
-  put-column-below t,
-  put-column.Post,
-)
-    (put-column-at t)
-    put-column.Post
++put-column-spec = close μ-put-column λ t. put-column-lts.spec (claims t) (put-column-at t) put-column.Post
     (put-column-returns t)
-    (put-column-sub-put-blanks t)
-    (put-column-put-blanks-requires t)
-    (put-column-cast-put-byte t)
-    (put-column-add-put-byte t)
-    (put-column-put-byte-requires t)
-    (put-column-same-length t)
+    (λ c. search needs)
+    (λ c κs. search needs)
+    (λ c. search needs)
+    (λ c. search needs)
+    (λ c κs. search needs)
+    (λ c. search needs)
     (put-column-returns-2 t)
-    (put-column-sub-put-column t)
-    (put-column-put-column-requires t)
-    (put-column-cast-put-byte-2 t)
-    (put-column-add-put-byte-2 t)
-    (put-column-put-byte-requires-2 t)
-    (put-column-same-length-2 t)
+    (λ c. search needs)
+    (λ c κs. search needs)
+    (λ c. search needs)
+    (λ c. search needs)
+    (λ c κs. search needs)
+    (λ c. search needs)
     (put-column-returns-3 t)

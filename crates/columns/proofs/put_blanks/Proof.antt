@@ -11,24 +11,6 @@ use Rattle.columns.proofs.Writes.{wrote-part}
 use Rattle.columns.proofs.put_blanks.Statement.{statement}
 use Rattle.columns.proofs.put_blanks.Tie as tie
 
-add-end : tie.Need-add-end
-add-end c = search needs
-
-sub-fill-with : tie.Need-sub-fill-with
-sub-fill-with c = search needs
-
-part-fill-with-start : tie.Need-part-fill-with-start
-part-fill-with-start c = search needs
-
-part-fill-with-end : tie.Need-part-fill-with-end
-part-fill-with-end c = search needs
-
-fill-with-requires : tie.Need-fill-with-requires
-fill-with-requires c κs = search needs
-
-same-length : tie.Need-same-length
-same-length c = search needs
-
 returns : tie.Need-returns
 returns c =
     let a = c .before .before .before .before .before .args in
@@ -45,10 +27,10 @@ pub put-blanks-spec : {M : Type 1} → statement M
 put-blanks-spec =
     tie.close
     (tie.spec
-    add-end
-    sub-fill-with
-    part-fill-with-start
-    part-fill-with-end
-    fill-with-requires
-    same-length
+    (λ c. search needs)
+    (λ c. search needs)
+    (λ c. search needs)
+    (λ c. search needs)
+    (λ c κs. search needs)
+    (λ c. search needs)
     returns)

@@ -10,15 +10,6 @@ use Rattle.counting.proofs.Answers.{exactly-within, large-within, withi
 use Rattle.counting.proofs.catalan.Statement.{statement}
 use Rattle.counting.proofs.catalan.Tie as tie
 
-returns : tie.Need-returns
-returns c = sym (within-out _ _ (lt-leb (c .before .args .n) branches (c .if1 .taken)))
-
-returns-2 : tie.Need-returns-2
-returns-2 c = large-within (le-leb (c .before .before .args .n) branches (c .before .if1 .left)) (catalan-large (c .if2 .taken))
-
-catalan-requires : tie.Need-catalan-requires
-catalan-requires c κs = search needs
-
 returns-3 : tie.Need-returns-3
 returns-3 c =
     let n = c .before .before .before .args .n in
@@ -26,4 +17,10 @@ returns-3 c =
     exactly-within (le-leb n branches (omega arith)) (c .catalan .ensures ∙ if-small small) small
 
 pub catalan-spec : {M : Type 1} → statement M
-catalan-spec = tie.close (tie.spec returns returns-2 catalan-requires returns-3)
+catalan-spec =
+    tie.close
+    (tie.spec
+    (λ c. sym (within-out _ _ (lt-leb (c .before .args .n) branches (c .if1 .taken))))
+    (λ c. large-within (le-leb (c .before .before .args .n) branches (c .before .if1 .left)) (catalan-large (c .if2 .taken)))
+    (λ c κs. search needs)
+    returns-3)

@@ -10,19 +10,16 @@ use Rattle.counting.proofs.Answers.{exactly-within, large-within, withi
 use Rattle.counting.proofs.factorial.Statement.{statement}
 use Rattle.counting.proofs.factorial.Tie as tie
 
-returns : tie.Need-returns
-returns c = sym (within-out _ _ (lt-leb (c .before .args .n) places (c .if1 .taken)))
-
-returns-2 : tie.Need-returns-2
-returns-2 c = large-within (le-leb (c .before .before .args .n) places (c .before .if1 .left)) (factorial-large (c .if2 .taken))
-
-factorial-requires : tie.Need-factorial-requires
-factorial-requires c κs = search needs
-
 returns-3 : tie.Need-returns-3
 returns-3 c =
     let n = c .before .before .before .args .n in
     exactly-within (le-leb n places (omega arith)) (c .factorial .ensures) (factorial-small (c .before .if2 .left))
 
 pub factorial-spec : {M : Type 1} → statement M
-factorial-spec = tie.close (tie.spec returns returns-2 factorial-requires returns-3)
+factorial-spec =
+    tie.close
+    (tie.spec
+    (λ c. sym (within-out _ _ (lt-leb (c .before .args .n) places (c .if1 .taken))))
+    (λ c. large-within (le-leb (c .before .before .args .n) places (c .before .if1 .left)) (factorial-large (c .if2 .taken)))
+    (λ c κs. search needs)
+    returns-3)

@@ -9,21 +9,9 @@ use Rattle.counting.proofs.Answers.{within-out, exactly-within, large-w
 use Rattle.counting.proofs.subset_count.Statement.{statement}
 use Rattle.counting.proofs.subset_count.Tie as tie
 
-returns : tie.Need-returns
-returns c = let a = c .before .args in sym (within-out _ _ (first-out (a .n) (a .k) places (c .if1 .taken)))
-
-returns-2 : tie.Need-returns-2
-returns-2 c = let a = c .before .before .args in sym (within-out _ _ (second-out (a .n) (a .k) places (c .if2 .taken)))
-
-coefficient-fits-requires : tie.Need-coefficient-fits-requires
-coefficient-fits-requires c κs = search needs
-
 returns-3 : tie.Need-returns-3
 returns-3 c = let a = c .before .before .before .before .args in
     large-within (both-in (a .n) (a .k) places (omega arith) (omega arith)) (ltb-false _ _ (sym (c .before .coefficient-fits .ensures) ∙ not-true _ (c .if3 .taken)))
-
-entry-requires : tie.Need-entry-requires
-entry-requires c κs = (omega arith, ltb-true _ _ (sym (c .before .coefficient-fits .ensures) ∙ not-false _ (c .if3 .left)))
 
 returns-4 : tie.Need-returns-4
 returns-4 c = let a = c .before .before .before .before .before .args in
@@ -31,4 +19,11 @@ returns-4 c = let a = c .before .before .before .before .before .args in
 
 pub subset-count-spec : {M : Type 1} → statement M
 subset-count-spec =
-    tie.close (tie.spec returns returns-2 coefficient-fits-requires returns-3 entry-requires returns-4)
+    tie.close
+    (tie.spec
+    (λ c. let a = c .before .args in sym (within-out _ _ (first-out (a .n) (a .k) places (c .if1 .taken))))
+    (λ c. let a = c .before .before .args in sym (within-out _ _ (second-out (a .n) (a .k) places (c .if2 .taken))))
+    (λ c κs. search needs)
+    returns-3
+    (λ c κs. (omega arith, ltb-true _ _ (sym (c .before .coefficient-fits .ensures) ∙ not-false _ (c .if3 .left))))
+    returns-4)

@@ -1,7 +1,7 @@
 -- How many words come before those whose inside has j branches.
 -- Assumes nothing.
 use Prim.Native.Nat.{ℕ, _*_, _-_}
-use Rattle.numbers.specs.Sums.{range, sumOver}
+use Rattle.basics.specs.Sums.{range, sumOver}
 use Rattle.numbers.specs.Numbers.{catalanOf}
 
 -- the words of n + 1 branches whose inside has fewer than j

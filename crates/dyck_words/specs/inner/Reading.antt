@@ -2,31 +2,20 @@
 -- Assumes nothing.
 use mathlib.Core.Path.{_≡_}
 use mathlib.Core.Bool.{false}
-use mathlib.Core.List.{[], _∷_, _++_}
-use Prim.Native.Nat.{ℕ, zero, suc, _+_, _-_, _≤_, _<_}
+use mathlib.Core.List.{_++_}
+use Prim.Native.Nat.{ℕ, suc, _+_, _-_, _≤_, _<_}
 use lib.ListN.{length, getD, drop}
-use Rattle.numbers.specs.Limits.{longestObject}
 use Rattle.listings.specs.Bytes.{Bytes}
 use Rattle.dyck_words.specs.declared.reading.Read.{Read}
 use Rattle.dyck_words.specs.declared.reading.Read.the-variants.{To, Broken}
 use Rattle.dyck_words.specs.Objects.{balancedFrom}
 use Rattle.dyck_words.specs.Trees.{Tree, word}
 
--- how many bytes until the height h has come to 0, as if 0s followed at the end
-unfoldable pub closing : ℕ → Bytes → ℕ
-closing h [] = h
-closing zero (b ∷ x) = 0
-closing (suc h) (zero ∷ x) = suc (closing h x)
-closing (suc h) (suc zero ∷ x) = suc (closing (suc (suc h)) x)
-closing (suc h) (suc (suc b) ∷ x) = suc (closing h x)
-
--- a reader came from one place to another: at each height the test passes on what is left before just if it passes on what is left after,
--- and no height above 0 came to 0 on the way
+-- a reader came from one place to another: at each height the test passes on what is left before just if it passes on what is left after
 pub record Passed (x : Bytes) (from to : ℕ) : Type 0 where
   pub onward : from ≤ to
   pub inside : to ≤ length x
   pub same : (h : ℕ) → balancedFrom h (drop from x) ≡ balancedFrom h (drop to x)
-  pub above : (h : ℕ) → closing (suc h) (drop from x) + from ≡ closing (suc h) (drop to x) + to
 
 -- at no height does the test pass from here on
 abbrev pub Fails : Bytes → ℕ → Type 0
@@ -52,8 +41,7 @@ pub record RowHere (b : ℕ) (rows : Bytes) (d r : ℕ) : Type 0 where
 abbrev pub Stops : Bytes → Type 0
 Stops y = getD y 0 0 ≡ 1 → ⊥
 
--- the table has the length of each row of x, by how many bytes are left where it starts; `after` more are left behind x
-pub record Told (x : Bytes) (after : ℕ) (rows : Bytes) : Type 0 where
+-- the table has the length of each row of x, by how many bytes are left where it starts; `left` are left where x does
+pub record Told (x : Bytes) (left : ℕ) (rows : Bytes) : Type 0 where
   pub low : (k : ℕ) → getD rows k 0 ≤ k
-  pub tells : (a b : Bytes) (t : Tree) → x ≡ a ++ (word t ++ b) → Stops b → after + length (word t ++ b) ≤ longestObject
-      → getD rows (after + length (word t ++ b)) 0 ≡ length (word t)
+  pub tells : (a b : Bytes) (t : Tree) → x ≡ a ++ (word t ++ b) → Stops b → getD rows (left - length a) 0 ≡ length (word t)

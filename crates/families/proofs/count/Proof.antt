@@ -13,21 +13,6 @@ use Rattle.families.proofs.Responses.{refused, count-said, count-refuse
 use Rattle.families.proofs.count.Statement.{statement}
 use Rattle.families.proofs.count.Tie as tie
 
-asked-of-all-requires : tie.Need-asked-of-all-requires
-asked-of-all-requires c κs = search needs
-
-enum-known-q : tie.Need-enum-known-q
-enum-known-q c = search needs
-
-enum-told : tie.Need-enum-told
-enum-told c = search needs
-
-answer-requires : tie.Need-answer-requires
-answer-requires c κs = allowed-asked _ _ (verdict (c .before .before .asked-of-all .ensures) (c .enum-told .given .1))
-
-enum-known-objects : tie.Need-enum-known-objects
-enum-known-objects c = search needs
-
 returns : tie.Need-returns
 returns c = count-refused _ _ _ (verdict (c .before .before .before .before .asked-of-all .ensures) (c .before .before .enum-told .given .1)) (not-exact _ (c .before .answer .ensures) (c .match2 .keys2))
 
@@ -36,18 +21,15 @@ returns-2 c =
     let exact = sym (c .before .before .before .answer .ensures) ∙ c .before .objects .given .1 in
     ap {B = Said} (λ (n : ℕ). (COUNTED n, [])) (sym (exactly _ _ exact)) ∙ count-said _ _ _ (verdict (c .before .before .before .before .before .before .asked-of-all .ensures) (c .before .before .before .before .enum-told .given .1)) (exactly-below _ _ exact)
 
-returns-3 : tie.Need-returns-3
-returns-3 c = refused _ _ _ COUNT (refused-early _ _ COUNT _ _ (verdict (c .before .before .before .asked-of-all .ensures) (c .before .q .given .1)))
-
 pub count-spec : {M : Type 1} → statement M
 count-spec =
     tie.close
     (tie.spec
-    asked-of-all-requires
-    enum-known-q
-    enum-told
-    answer-requires
-    enum-known-objects
+    (λ c κs. search needs)
+    (λ c. search needs)
+    (λ c. search needs)
+    (λ c κs. allowed-asked _ _ (verdict (c .before .before .asked-of-all .ensures) (c .enum-told .given .1)))
+    (λ c. search needs)
     returns
     returns-2
-    returns-3)
+    (λ c. refused _ _ _ COUNT (refused-early _ _ COUNT _ _ (verdict (c .before .before .before .asked-of-all .ensures) (c .before .q .given .1)))))

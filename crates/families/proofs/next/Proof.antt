@@ -8,43 +8,19 @@ use Rattle.families.proofs.Responses.{refused, acts}
 use Rattle.families.proofs.next.Statement.{statement}
 use Rattle.families.proofs.next.Tie as tie
 
-ask-requires : tie.Need-ask-requires
-ask-requires c κs = tt
-
-enum-known-q : tie.Need-enum-known-q
-enum-known-q c = search needs
-
-enum-told : tie.Need-enum-told
-enum-told c = search needs
-
-next-requires : tie.Need-next-requires
-next-requires c κs = asks-enough _ _ .reads NEXT _ _ refl (verdict (c .before .before .before .ask .ensures) (c .before .enum-told .given .1))
-
-step-answer-requires : tie.Need-step-answer-requires
-step-answer-requires c κs = tt
-
-same-length : tie.Need-same-length
-same-length c = search needs
-
 returns : tie.Need-returns
 returns c = rw (c .step-answer .ensures) (c .before .before .before .next .ensures ∙ acts _ _ _ NEXT (verdict (c .before .before .before .before .before .before .before .ask .ensures) (c .before .before .before .before .before .enum-told .given .1)))
-
-same-length-2 : tie.Need-same-length-2
-same-length-2 c = search needs
-
-returns-2 : tie.Need-returns-2
-returns-2 c = refused _ _ _ NEXT (verdict (c .before .before .before .ask .ensures) (c .before .q .given .1))
 
 pub next-spec : {M : Type 1} → statement M
 next-spec =
     tie.close
     (tie.spec
-    ask-requires
-    enum-known-q
-    enum-told
-    next-requires
-    step-answer-requires
-    same-length
+    (λ c κs. tt)
+    (λ c. search needs)
+    (λ c. search needs)
+    (λ c κs. asks-enough _ _ .reads NEXT _ _ refl (verdict (c .before .before .before .ask .ensures) (c .before .enum-told .given .1)))
+    (λ c κs. tt)
+    (λ c. search needs)
     returns
-    same-length-2
-    returns-2)
+    (λ c. search needs)
+    (λ c. refused _ _ _ NEXT (verdict (c .before .before .before .ask .ensures) (c .before .q .given .1))))

@@ -7,18 +7,6 @@ use Rattle.families.proofs.Verdicts.{verdict}
 use Rattle.families.proofs.object_length.Statement.{statement}
 use Rattle.families.proofs.object_length.Tie as tie
 
-asked-of-all-requires : tie.Need-asked-of-all-requires
-asked-of-all-requires c κs = search needs
-
-enum-known-q : tie.Need-enum-known-q
-enum-known-q c = search needs
-
-enum-told : tie.Need-enum-told
-enum-told c = search needs
-
-object-length-requires : tie.Need-object-length-requires
-object-length-requires c κs = allowed-asked _ _ (verdict (c .before .before .asked-of-all .ensures) (c .enum-told .given .1))
-
 returns : tie.Need-returns
 unfolding measured unlessRefused
 returns c = rw (c .object-length .ensures, verdict (c .before .before .before .asked-of-all .ensures) (c .before .enum-told .given .1))
@@ -31,9 +19,9 @@ pub object-length-spec : {M : Type 1} → statement M
 object-length-spec =
     tie.close
     (tie.spec
-    asked-of-all-requires
-    enum-known-q
-    enum-told
-    object-length-requires
+    (λ c κs. search needs)
+    (λ c. search needs)
+    (λ c. search needs)
+    (λ c κs. allowed-asked _ _ (verdict (c .before .before .asked-of-all .ensures) (c .enum-told .given .1)))
     returns
     returns-2)

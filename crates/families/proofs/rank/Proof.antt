@@ -10,15 +10,6 @@ use Rattle.families.proofs.Responses.{refused, acts}
 use Rattle.families.proofs.rank.Statement.{statement}
 use Rattle.families.proofs.rank.Tie as tie
 
-ask-requires : tie.Need-ask-requires
-ask-requires c κs = tt
-
-enum-known-q : tie.Need-enum-known-q
-enum-known-q c = search needs
-
-enum-told : tie.Need-enum-told
-enum-told c = search needs
-
 rank-requires : tie.Need-rank-requires
 unfolding asked isIn
 rank-requires c κs =
@@ -29,9 +20,13 @@ returns : tie.Need-returns
 unfolding act rankOf
 returns c = rw (c .rank .ensures) (acts _ _ _ RANK (verdict (c .before .before .before .ask .ensures) (c .before .enum-told .given .1)))
 
-returns-2 : tie.Need-returns-2
-returns-2 c = refused _ _ _ RANK (verdict (c .before .before .before .ask .ensures) (c .before .q .given .1))
-
 pub rank-spec : {M : Type 1} → statement M
 rank-spec =
-    tie.close (tie.spec ask-requires enum-known-q enum-told rank-requires returns returns-2)
+    tie.close
+    (tie.spec
+    (λ c κs. tt)
+    (λ c. search needs)
+    (λ c. search needs)
+    rank-requires
+    returns
+    (λ c. refused _ _ _ RANK (verdict (c .before .before .before .ask .ensures) (c .before .q .given .1))))

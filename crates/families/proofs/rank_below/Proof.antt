@@ -10,24 +10,6 @@ use Rattle.families.proofs.CountAnswers.{is-beyond}
 use Rattle.families.proofs.rank_below.Statement.{statement}
 use Rattle.families.proofs.rank_below.Tie as tie
 
-asked-of-all-requires : tie.Need-asked-of-all-requires
-asked-of-all-requires c κs = search needs
-
-enum-told : tie.Need-enum-told
-enum-told c = search needs
-
-enum-told-2 : tie.Need-enum-told-2
-enum-told-2 c = search needs
-
-rank-size-requires : tie.Need-rank-size-requires
-rank-size-requires c κs = allowed-asked _ _ (verdict (c .before .before .asked-of-all .ensures) (c .enum-told2 .given .1))
-
-size-verdict-requires : tie.Need-size-verdict-requires
-size-verdict-requires c κs = search needs
-
-returns : tie.Need-returns
-returns c = c .size-verdict .ensures ∙ c .before .rank-size .ensures
-
 returns-2 : tie.Need-returns-2
 unfolding countOf
 returns-2 c =
@@ -38,10 +20,10 @@ pub rank-below-spec : {M : Type 1} → statement M
 rank-below-spec =
     tie.close
     (tie.spec
-    asked-of-all-requires
-    enum-told
-    enum-told-2
-    rank-size-requires
-    size-verdict-requires
-    returns
+    (λ c κs. search needs)
+    (λ c. search needs)
+    (λ c. search needs)
+    (λ c κs. allowed-asked _ _ (verdict (c .before .before .asked-of-all .ensures) (c .enum-told2 .given .1)))
+    (λ c κs. search needs)
+    (λ c. c .size-verdict .ensures ∙ c .before .rank-size .ensures)
     returns-2)

@@ -11,42 +11,24 @@ use Rattle.families.proofs.Responses.{refused, writes-ranked}
 use Rattle.families.proofs.unrank.Statement.{statement}
 use Rattle.families.proofs.unrank.Tie as tie
 
-ask-requires : tie.Need-ask-requires
-ask-requires c κs = tt
-
-enum-known-q : tie.Need-enum-known-q
-enum-known-q c = search needs
-
-enum-told : tie.Need-enum-told
-enum-told c = search needs
-
 unrank-requires : tie.Need-unrank-requires
 unfolding countOf asked isIn
 unrank-requires c κs =
     let pass = verdict (c .before .before .before .ask .ensures) (c .before .enum-told .given .1) in
     (admitted _ _ (UNRANK _) _ _ pass, (fits-asked _ _ (UNRANK _) _ _ refl pass, (asks-enough _ _ .sized (UNRANK _) _ _ refl pass, omega (arith, asks-enough _ _ .below _ _ _ pass))))
 
-same-length : tie.Need-same-length
-same-length c = search needs
-
 returns : tie.Need-returns
 returns c = writes-ranked _ _ _ _ (c .before .before .unrank .ensures) (verdict (c .before .before .before .before .before .before .ask .ensures) (c .before .before .before .before .enum-told .given .1))
-
-same-length-2 : tie.Need-same-length-2
-same-length-2 c = search needs
-
-returns-2 : tie.Need-returns-2
-returns-2 c = refused _ _ _ (UNRANK _) (verdict (c .before .before .before .ask .ensures) (c .before .q .given .1))
 
 pub unrank-spec : {M : Type 1} → statement M
 unrank-spec =
     tie.close
     (tie.spec
-    ask-requires
-    enum-known-q
-    enum-told
+    (λ c κs. tt)
+    (λ c. search needs)
+    (λ c. search needs)
     unrank-requires
-    same-length
+    (λ c. search needs)
     returns
-    same-length-2
-    returns-2)
+    (λ c. search needs)
+    (λ c. refused _ _ _ (UNRANK _) (verdict (c .before .before .before .ask .ensures) (c .before .q .given .1))))

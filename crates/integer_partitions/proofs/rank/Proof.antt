@@ -1,12 +1,14 @@
--- `integer_partitions::rank` meets its contract. The invariant: what is counted far and so the rank of the first k parts make the rank; the
+-- `integer_partitions::rank` meets its contract. The invariant: what is counted so far and the rank of the first k parts make the rank; the
 -- measure is k. Assumes nothing.
+use mathlib.Core.Path.{_≡_}
 use native.Mathlib.Omega.{arith}
 use lib.ListN.{length}
 use borrow.Author.Needs.{needs}
-use Rattle.integer_partitions.proofs.Parts.{few}
+use Rattle.listings.proofs.Ranks.{rank-below}
+use Rattle.integer_partitions.proofs.Facts.{few}
+use Rattle.integer_partitions.proofs.Theorem.{lists, counted}
+use Rattle.integer_partitions.proofs.Ranks.{Ranking, ranking, last-of, ranking-on, ranked}
 use Rattle.integer_partitions.proofs.Small.{small-over}
-use Rattle.integer_partitions.proofs.Ranks.{rank-within}
-use Rattle.integer_partitions.proofs.Loops.{Ranking, ranking, last-of, ranking-on, ranked}
 use Rattle.integer_partitions.proofs.rank.Statement.{statement}
 use Rattle.integer_partitions.proofs.rank.Tie as tie
 
@@ -16,48 +18,16 @@ Inv-loop floor n object earlier₀ least₀ left₀ k₀ earlier least left k = 
 abbrev μ-loop : tie.MeasureT-loop
 μ-loop floor n object earlier₀ least₀ left₀ k₀ earlier least left k = k
 
-loop-holds : tie.Need-loop-holds Inv-loop μ-loop
-loop-holds c = let a = c .before .args in ranking (a .floor) (a .n) (a .object .now) (omega arith) (c .before .pre .1)
-
-sub-wide : tie.Need-sub-wide Inv-loop μ-loop
-sub-wide c = omega arith
-
-shared-slice-read-wide : tie.Need-shared-slice-read-wide Inv-loop μ-loop
-shared-slice-read-wide c = omega (arith, c .before .before .loop .inv)
-
-wide-requires : tie.Need-wide-requires Inv-loop μ-loop
-wide-requires c κs = search needs
-
-with-smaller-requires : tie.Need-with-smaller-requires Inv-loop μ-loop
-with-smaller-requires c κs =
-    let s = c .before .before .before .before .before in
-    let a = s .args in
-    omega (arith, s .pre .0, c .wide .ensures, last-of (c .before .before .before .loop .inv) (omega arith), few (a .floor) (a .n) (a .object .now) (omega arith) (s .pre .1))
-
 loop-again : tie.Need-loop-again Inv-loop μ-loop
-loop-again c =
-    let w = c .before .wide in
-    ranking-on (w .result) (c .with-smaller .result) (c .before .before .before .before .loop .inv) (omega arith) (w .ensures) (c .with-smaller .ensures)
+loop-again c = ranking-on (c .before .before .before .before .loop .inv) (omega arith) (c .before .wide .ensures) (c .with-smaller .ensures)
 
--- what is counted far is so at most the rank, which fits
+-- what is counted so far is at most the rank, which fits
 add-earlier : tie.Need-add-earlier Inv-loop μ-loop
 add-earlier c =
     let s = c .before .before .before .before .before .before in
     let a = s .args in
     let x = a .object .now in
-    record { fits = omega (arith, loop-again c .sum, rank-within (a .floor) (a .n) (length x) x (s .pre .1), small-over (a .floor) (a .n) (length x) (omega arith) (omega arith)) }
-
-sub-left : tie.Need-sub-left Inv-loop μ-loop
-sub-left c = omega (arith, c .before .wide .ensures, last-of (c .before .before .before .before .loop .inv) (omega arith))
-
-sub-k : tie.Need-sub-k Inv-loop μ-loop
-sub-k c = omega arith
-
-loop-less : tie.Need-loop-less Inv-loop μ-loop
-loop-less c = omega arith
-
-returns : tie.Need-returns Inv-loop μ-loop
-returns c = ranked (c .before .loop .inv) (omega (arith, c .loop-test .left))
+    record { fits = omega (arith, loop-again c .sum, rank-below (lists (a .floor) (a .n) (length x)) x (s .pre .1), counted (a .floor) (a .n) (length x), small-over (a .floor) (a .n) (length x) (omega arith) (omega arith)) }
 
 pub rank-spec : {M : Type 1} → statement M
 rank-spec =
@@ -65,14 +35,14 @@ rank-spec =
     (tie.spec
     Inv-loop
     μ-loop
-    loop-holds
-    sub-wide
-    shared-slice-read-wide
-    wide-requires
-    with-smaller-requires
+    (λ c. let a = c .before .args in ranking (a .floor) (a .n) (a .object .now) (omega arith) (c .before .pre .1))
+    (λ c. omega arith)
+    (λ c. omega (arith, c .before .before .loop .inv))
+    (λ c κs. search needs)
+    (λ c κs. let s = c .before .before .before .before .before in omega (arith, s .pre .0, c .wide .ensures, last-of (c .before .before .before .loop .inv) (omega arith), few _ _ _ _ (s .pre .0 .1) (s .pre .1)))
     add-earlier
-    sub-left
-    sub-k
-    loop-less
+    (λ c. omega (arith, c .before .wide .ensures, last-of (c .before .before .before .before .loop .inv) (omega arith)))
+    (λ c. omega arith)
+    (λ c. omega arith)
     loop-again
-    returns)
+    (λ c. let e : c .before .loop .k ≡ 0 = omega (arith, c .loop-test .left) in ranked (rw e at (c .before .loop .inv))))

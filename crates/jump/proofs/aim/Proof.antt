@@ -12,20 +12,11 @@ use Rattle.jump.proofs.Signs.{below-zero, not-below-zero}
 use Rattle.jump.proofs.aim.Statement.{statement}
 use Rattle.jump.proofs.aim.Tie as tie
 
-backward-requires : tie.Need-backward-requires
-backward-requires c κs = below-zero (toZ w64 (ofZ w64 (c .before .args .d))) (c .if1 .taken)
-
 returns : tie.Need-returns
 returns c =
     let a = c .before .before .before .args in
     let fits = c .before .before .before .fits in
     before-first (a .rank) (2 ^ 64) (c .before .backward .result) (sym (toZ-ofZ w64 (a .d) (fits .d)) ∙ c .before .backward .ensures) (fits .rank .fits) (omega (arith, c .if2 .taken))
-
-sub-t7 : tie.Need-sub-t7
-sub-t7 c = search needs
-
-sub-t8 : tie.Need-sub-t8
-sub-t8 c = search needs
 
 returns-2 : tie.Need-returns-2
 returns-2 c =
@@ -33,20 +24,11 @@ returns-2 c =
     let fits = c .before .before .before .fits in
     back-to (a .rank) (2 ^ 64) (c .before .backward .result) (sym (toZ-ofZ w64 (a .d) (fits .d)) ∙ c .before .backward .ensures) (fits .rank .fits) (omega (arith, c .if2 .left))
 
-forward-requires : tie.Need-forward-requires
-forward-requires c κs = not-below-zero (toZ w64 (ofZ w64 (c .before .args .d))) (c .if1 .left)
-
-sub-if3 : tie.Need-sub-if3
-sub-if3 c = search needs
-
 returns-3 : tie.Need-returns-3
 returns-3 c =
     let a = c .before .before .before .args in
     let fits = c .before .before .before .fits in
     behind-last (a .rank) (2 ^ 64) (c .before .forward .result) (sym (toZ-ofZ w64 (a .d) (fits .d)) ∙ c .before .forward .ensures) (omega (arith, c .if3 .taken, fits .rank .fits))
-
-add-t9 : tie.Need-add-t9
-add-t9 c = search needs
 
 returns-4 : tie.Need-returns-4
 returns-4 c =
@@ -58,13 +40,13 @@ pub aim-spec : {M : Type 1} → statement M
 aim-spec =
     tie.close
     (tie.spec
-    backward-requires
+    (λ c κs. below-zero (toZ w64 (ofZ w64 (c .before .args .d))) (c .if1 .taken))
     returns
-    sub-t7
-    sub-t8
+    (λ c. search needs)
+    (λ c. search needs)
     returns-2
-    forward-requires
-    sub-if3
+    (λ c κs. not-below-zero (toZ w64 (ofZ w64 (c .before .args .d))) (c .if1 .left))
+    (λ c. search needs)
     returns-3
-    add-t9
+    (λ c. search needs)
     returns-4)

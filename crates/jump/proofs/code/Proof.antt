@@ -5,15 +5,6 @@ use borrow.Author.Needs.{needs}
 use Rattle.jump.proofs.code.Statement.{statement}
 use Rattle.jump.proofs.code.Tie as tie
 
-enum-told : tie.Need-enum-told
-enum-told c = search needs
-
-enum-told-2 : tie.Need-enum-told-2
-enum-told-2 c = search needs
-
-enum-known-j : tie.Need-enum-known-j
-enum-known-j c = search needs
-
 returns : tie.Need-returns
 unfolding codeOf
 returns c = search needs
@@ -27,4 +18,4 @@ unfolding codeOf
 returns-3 c = search needs
 
 pub code-spec : {M : Type 1} → statement M
-code-spec = tie.close (tie.spec enum-told enum-told-2 enum-known-j returns returns-2 returns-3)
+code-spec = tie.close (tie.spec (λ c. search needs) (λ c. search needs) (λ c. search needs) returns returns-2 returns-3)

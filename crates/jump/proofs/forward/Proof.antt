@@ -4,11 +4,5 @@ use Rattle.jump.proofs.Signs.{forward-fits, forward-is}
 use Rattle.jump.proofs.forward.Statement.{statement}
 use Rattle.jump.proofs.forward.Tie as tie
 
-cast-result : tie.Need-cast-result
-cast-result c = forward-fits (c .args .d) (c .fits .d) (c .pre)
-
-returns : tie.Need-returns
-returns c = forward-is (c .args .d) (c .fits .d) (c .pre)
-
 pub forward-spec : {M : Type 1} → statement M
-forward-spec = tie.close (tie.spec cast-result returns)
+forward-spec = tie.close (tie.spec (λ c. forward-fits (c .args .d) (c .fits .d) (c .pre)) (λ c. forward-is (c .args .d) (c .fits .d) (c .pre)))

@@ -12,32 +12,11 @@ use borrow.Author.Needs.{needs}
 use Rattle.jump.proofs.jump_from.Statement.{statement}
 use Rattle.jump.proofs.jump_from.Tie as tie
 
-aim-requires : tie.Need-aim-requires
-aim-requires c κs = search needs
-
-enum-known-to : tie.Need-enum-known-to
-enum-known-to c = search needs
-
-enum-told : tie.Need-enum-told
-enum-told c = search needs
-
 returns : tie.Need-returns
 returns c =
     let s = c .before .before .before .before in
     let aimed = c .before .before .aim .ensures ∙ ap (target _ (2 ^ 64)) (toZ-ofZ w64 (s .args .d) (s .fits .d)) in
     off _ _ _ _ (s .pre .0) (s .pre .1) (sym (ap goalAs (c .enum-told .given .1)) ∙ aimed)
-
-unrank-requires : tie.Need-unrank-requires
-unrank-requires c κs = search needs
-
-enum-told-2 : tie.Need-enum-told-2
-enum-told-2 c = search needs
-
-enum-told-3 : tie.Need-enum-told-3
-enum-told-3 c = search needs
-
-same-length : tie.Need-same-length
-same-length c = search needs
 
 returns-2 : tie.Need-returns-2
 returns-2 c =
@@ -45,9 +24,6 @@ returns-2 c =
     let aimed = c .before .before .before .before .before .before .before .before .before .aim .ensures ∙ ap (target _ (2 ^ 64)) (toZ-ofZ w64 (s .args .d) (s .fits .d)) in
     let to = sym (ap goalAs (c .before .before .before .before .before .before .before .to .given .1)) ∙ aimed in
     landed _ _ _ _ (s .pre .0) (s .pre .1) to (ap writtenAs (c .enum-told2 .given .1)) (c .before .before .before .before .unrank .ensures)
-
-same-length-2 : tie.Need-same-length-2
-same-length-2 c = search needs
 
 returns-3 : tie.Need-returns-3
 returns-3 c =
@@ -60,14 +36,14 @@ pub jump-from-spec : {M : Type 1} → statement M
 jump-from-spec =
     tie.close
     (tie.spec
-    aim-requires
-    enum-known-to
-    enum-told
+    (λ c κs. search needs)
+    (λ c. search needs)
+    (λ c. search needs)
     returns
-    unrank-requires
-    enum-told-2
-    enum-told-3
-    same-length
+    (λ c κs. search needs)
+    (λ c. search needs)
+    (λ c. search needs)
+    (λ c. search needs)
     returns-2
-    same-length-2
+    (λ c. search needs)
     returns-3)

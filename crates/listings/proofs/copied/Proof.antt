@@ -8,18 +8,9 @@ use borrow.Author.Needs.{needs}
 use Rattle.listings.proofs.copied.Statement.{statement}
 use Rattle.listings.proofs.copied.Tie as tie
 
-array-borrow-prefix-space : tie.Need-array-borrow-prefix-space
-array-borrow-prefix-space c = search needs
-
-slice-aggregate-copy : tie.Need-slice-aggregate-copy
-slice-aggregate-copy c = simp length-take (omega arith)
-
-copy-requires : tie.Need-copy-requires
-copy-requires c κs = simp length-take (omega arith)
-
 returns : tie.Need-returns
 returns c = let e = c .before .copy .ensures in (simp (length-append, length-drop) (omega (arith, ap length e)), take-at (c .before .copy .last .0) _ (length (c .before .before .before .before .args .bytes .now)) (ap length e) ∙ e)
 
 pub copied-spec : {M : Type 1} → statement M
 copied-spec =
-    tie.close (tie.spec array-borrow-prefix-space slice-aggregate-copy copy-requires returns)
+    tie.close (tie.spec (λ c. search needs) (λ c. simp length-take (omega arith)) (λ c κs. simp length-take (omega arith)) returns)

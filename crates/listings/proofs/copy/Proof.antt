@@ -2,10 +2,10 @@
 -- Assumes nothing.
 use mathlib.Core.Path.{_≡_, _∙_, ap}
 use mathlib.Core.List.{List, map}
-use Prim.Native.Nat.{ℕ, _+_, _-_, _≤_}
+use Prim.Native.Nat.{ℕ, _-_, _≤_}
 use native.Mathlib.Omega.{arith}
 use lib.ListN.{length, getD, set}
-use Rattle.numbers.specs.Sums.{range}
+use Rattle.basics.specs.Sums.{range}
 use Rattle.listings.proofs.Fills.{filled, fill-none, fill-more, length-filled, fill-all, reading}
 use Rattle.listings.proofs.copy.Statement.{statement}
 use Rattle.listings.proofs.copy.Tie as tie
@@ -19,21 +19,6 @@ abbrev μ-loop : tie.MeasureT-loop
 kept : (c : tie.At-loop Inv-loop μ-loop) → length (c .loop .part) ≡ length (c .before .args .part .now)
 kept c = ap length (c .loop .inv .1) ∙ length-filled (λ i. getD (c .before .args .from .now) i 0) (c .loop .i) (c .before .args .part .now) (c .loop .inv .0)
 
-loop-holds : tie.Need-loop-holds Inv-loop μ-loop
-loop-holds c = (omega arith, fill-none (λ i. getD (c .args .from .now) i 0) (c .args .part .now))
-
-shared-slice-read-part : tie.Need-shared-slice-read-part Inv-loop μ-loop
-shared-slice-read-part c = omega (arith, kept (c .before .before))
-
-slice-write-part : tie.Need-slice-write-part Inv-loop μ-loop
-slice-write-part c = omega arith
-
-add-i : tie.Need-add-i Inv-loop μ-loop
-add-i c = omega arith
-
-loop-less : tie.Need-loop-less Inv-loop μ-loop
-loop-less c = omega (arith, kept (c .before .before))
-
 loop-again : tie.Need-loop-again Inv-loop μ-loop
 loop-again c =
     let a = c .before .before .before .args in
@@ -42,9 +27,6 @@ loop-again c =
       ap (λ (l : List ℕ). set l i (getD (a .from .now) i 0)) (c .before .before .loop .inv .1)
           ∙ fill-more (λ i. getD (a .from .now) i 0) i (a .part .now) (omega (arith, kept (c .before .before))),
     )
-
-same-length : tie.Need-same-length Inv-loop μ-loop
-same-length c = kept (c .before)
 
 returns : tie.Need-returns Inv-loop μ-loop
 returns c =
@@ -60,11 +42,11 @@ copy-spec =
     (tie.spec
     Inv-loop
     μ-loop
-    loop-holds
-    shared-slice-read-part
-    slice-write-part
-    add-i
-    loop-less
+    (λ c. (omega arith, fill-none (λ i. getD (c .args .from .now) i 0) (c .args .part .now)))
+    (λ c. omega (arith, kept (c .before .before)))
+    (λ c. omega arith)
+    (λ c. omega arith)
+    (λ c. omega (arith, kept (c .before .before)))
     loop-again
-    same-length
+    (λ c. kept (c .before))
     returns)

@@ -18,33 +18,12 @@ abbrev μ-loop : tie.MeasureT-loop
 kept : (c : tie.At-loop Inv-loop μ-loop) → length (c .loop .part) ≡ length (c .before .args .part .now)
 kept c = ap length (c .loop .inv .1) ∙ length-filled (λ i. c .before .args .from + i) (c .loop .i) (c .before .args .part .now) (c .loop .inv .0)
 
-loop-holds : tie.Need-loop-holds Inv-loop μ-loop
-loop-holds c = (omega arith, fill-none (λ i. c .args .from + i) (c .args .part .now))
-
-cast-part : tie.Need-cast-part Inv-loop μ-loop
-cast-part c = omega (arith, kept (c .before))
-
-add-part : tie.Need-add-part Inv-loop μ-loop
-add-part c = omega (arith, kept (c .before))
-
-slice-write-part : tie.Need-slice-write-part Inv-loop μ-loop
-slice-write-part c = omega arith
-
-add-i : tie.Need-add-i Inv-loop μ-loop
-add-i c = omega arith
-
-loop-less : tie.Need-loop-less Inv-loop μ-loop
-loop-less c = omega (arith, kept (c .before))
-
 loop-again : tie.Need-loop-again Inv-loop μ-loop
 loop-again c = (
   omega (arith, kept (c .before)),
   ap (λ (l : List ℕ). set l (c .before .loop .i) (c .before .before .args .from + c .before .loop .i)) (c .before .loop .inv .1)
       ∙ fill-more (λ i. c .before .before .args .from + i) (c .before .loop .i) (c .before .before .args .part .now) (omega (arith, kept (c .before))),
 )
-
-same-length : tie.Need-same-length Inv-loop μ-loop
-same-length c = kept (c .before)
 
 returns : tie.Need-returns Inv-loop μ-loop
 returns c =
@@ -59,12 +38,12 @@ fill-up-spec =
     (tie.spec
     Inv-loop
     μ-loop
-    loop-holds
-    cast-part
-    add-part
-    slice-write-part
-    add-i
-    loop-less
+    (λ c. (omega arith, fill-none (λ i. c .args .from + i) (c .args .part .now)))
+    (λ c. omega (arith, kept (c .before)))
+    (λ c. omega (arith, kept (c .before)))
+    (λ c. omega arith)
+    (λ c. omega arith)
+    (λ c. omega (arith, kept (c .before)))
     loop-again
-    same-length
+    (λ c. kept (c .before))
     returns)

@@ -1,7 +1,7 @@
 -- `listings::fill_with` meets its contract: after i turns the first i places hold the value.
 -- Assumes nothing.
 use mathlib.Core.Path.{_≡_, _∙_, ap}
-use Prim.Native.Nat.{ℕ, _+_, _-_, _≤_}
+use Prim.Native.Nat.{ℕ, _-_, _≤_}
 use native.Mathlib.Omega.{arith}
 use mathlib.Core.List.{List}
 use lib.ListN.{length, set}
@@ -18,27 +18,12 @@ abbrev μ-loop : tie.MeasureT-loop
 kept : (c : tie.At-loop Inv-loop μ-loop) → length (c .loop .part) ≡ length (c .before .args .part .now)
 kept c = ap length (c .loop .inv .1) ∙ length-filled (λ _. c .before .args .value) (c .loop .i) (c .before .args .part .now) (c .loop .inv .0)
 
-loop-holds : tie.Need-loop-holds Inv-loop μ-loop
-loop-holds c = (omega arith, fill-none (λ _. c .args .value) (c .args .part .now))
-
-slice-write-part : tie.Need-slice-write-part Inv-loop μ-loop
-slice-write-part c = omega arith
-
-add-i : tie.Need-add-i Inv-loop μ-loop
-add-i c = omega arith
-
-loop-less : tie.Need-loop-less Inv-loop μ-loop
-loop-less c = omega (arith, kept (c .before))
-
 loop-again : tie.Need-loop-again Inv-loop μ-loop
 loop-again c = (
   omega (arith, kept (c .before)),
   ap (λ (l : List ℕ). set l (c .before .loop .i) (c .before .before .args .value)) (c .before .loop .inv .1)
       ∙ fill-more (λ _. c .before .before .args .value) (c .before .loop .i) (c .before .before .args .part .now) (omega (arith, kept (c .before))),
 )
-
-same-length : tie.Need-same-length Inv-loop μ-loop
-same-length c = kept (c .before)
 
 returns : tie.Need-returns Inv-loop μ-loop
 returns c =
@@ -53,10 +38,10 @@ fill-with-spec =
     (tie.spec
     Inv-loop
     μ-loop
-    loop-holds
-    slice-write-part
-    add-i
-    loop-less
+    (λ c. (omega arith, fill-none (λ _. c .args .value) (c .args .part .now)))
+    (λ c. omega arith)
+    (λ c. omega arith)
+    (λ c. omega (arith, kept (c .before)))
     loop-again
-    same-length
+    (λ c. kept (c .before))
     returns)

@@ -11,9 +11,6 @@ use Rattle.numbers.proofs.Laws.{floor-shift, too-few}
 use Rattle.partition_numbers.proofs.at_least.Statement.{statement}
 use Rattle.partition_numbers.proofs.at_least.Tie as tie
 
-sub-off : tie.Need-sub-off
-sub-off c = search needs
-
 mul-off : tie.Need-mul-off
 mul-off c =
     let most : c .args .k ≤ places = omega arith in
@@ -26,15 +23,16 @@ returns c =
     let less : a .floor - 1 ≤ a .floor = omega arith in
     sym (too-few (a .floor) (a .n) (a .k) (omega (arith, mul-le-mul-left (a .k) less)))
 
-partitions-requires : tie.Need-partitions-requires
-partitions-requires c κs = search needs
-
 -- parts of at least p are as many as parts of any size with the sum that is left
 at-least-one : (p n k : ℕ) → 0 < p → k * (p - 1) ≤ n → partitionsOf (n - k * (p - 1)) k ≡ partsFrom p n k
 at-least-one p n k pos h = let back : suc (p - 1) ≡ p = omega arith in rw (← floor-shift (p - 1) n k h, back)
 
-returns-2 : tie.Need-returns-2
-returns-2 c = let a = c .before .before .args in c .partitions .ensures ∙ at-least-one (a .floor) (a .n) (a .k) (omega arith) (omega arith)
-
 pub at-least-spec : {M : Type 1} → statement M
-at-least-spec = tie.close (tie.spec sub-off mul-off returns partitions-requires returns-2)
+at-least-spec =
+    tie.close
+    (tie.spec
+    (λ c. search needs)
+    mul-off
+    returns
+    (λ c κs. search needs)
+    (λ c. let a = c .before .before .args in c .partitions .ensures ∙ at-least-one (a .floor) (a .n) (a .k) (omega arith) (omega arith)))

@@ -7,16 +7,10 @@ use Rattle.partition_numbers.proofs.Rules.{same-number}
 use Rattle.partition_numbers.proofs.narrowed.Statement.{statement}
 use Rattle.partition_numbers.proofs.narrowed.Tie as tie
 
-add-result : tie.Need-add-result
-add-result c = search needs
-
 returns : tie.Need-returns
 returns c =
     let a = c .before .args in
     (omega arith, same-number (a .e) (a .e + a .e % 2) (a .j) (omega arith) (omega arith))
 
-returns-2 : tie.Need-returns-2
-returns-2 c = search needs
-
 pub narrowed-spec : {M : Type 1} → statement M
-narrowed-spec = tie.close (tie.spec add-result returns returns-2)
+narrowed-spec = tie.close (tie.spec (λ c. search needs) returns (λ c. search needs))

@@ -10,34 +10,10 @@ use Rattle.partition_numbers.proofs.Rules.{one-read, two-reads}
 use Rattle.partition_numbers.proofs.partitions.Statement.{statement}
 use Rattle.partition_numbers.proofs.partitions.Tie as tie
 
-returns : tie.Need-returns
-returns c = let a = c .before .args in sym (partitions-none (a .n) (a .k) (c .if1 .taken))
-
-add-column : tie.Need-add-column
-add-column c = search needs
-
-column-requires : tie.Need-column-requires
-column-requires c κs = search needs
-
-add-if3 : tie.Need-add-if3
-add-if3 c = search needs
-
 returns-2 : tie.Need-returns-2
 returns-2 c =
     let a = c .before .before .before .before .args in
     c .before .column .ensures ∙ one-read (a .n) (a .k) (omega arith) (c .if3 .taken)
-
-add-column-2 : tie.Need-add-column-2
-add-column-2 c = search needs
-
-sub-column : tie.Need-sub-column
-sub-column c = search needs
-
-add-column-3 : tie.Need-add-column-3
-add-column-3 c = search needs
-
-column-requires-2 : tie.Need-column-requires-2
-column-requires-2 c κs = search needs
 
 sub-result : tie.Need-sub-result
 sub-result c =
@@ -49,16 +25,10 @@ returns-3 c =
     let a = c .before .before .before .before .before .args in
     omega (arith, c .column2 .ensures, c .before .before .column .ensures, two-reads (a .n) (a .k) (omega arith) (omega arith))
 
-returns-4 : tie.Need-returns-4
-returns-4 c = sym (ap₂ partitionsOf (c .if5 .taken) (c .before .if4 .taken) ∙ partitions-corner)
-
 returns-5 : tie.Need-returns-5
 returns-5 c =
     let a = c .before .before .before .before .args in
     sym (ap (partitionsOf (a .n)) (c .before .if4 .taken) ∙ partitions-zero (a .n) (omega (arith, c .if5 .left)))
-
-column-requires-3 : tie.Need-column-requires-3
-column-requires-3 c κs = search needs
 
 returns-6 : tie.Need-returns-6
 returns-6 c =
@@ -70,18 +40,18 @@ pub partitions-spec : {M : Type 1} → statement M
 partitions-spec =
     tie.close
     (tie.spec
-    returns
-    add-column
-    column-requires
-    add-if3
+    (λ c. let a = c .before .args in sym (partitions-none (a .n) (a .k) (c .if1 .taken)))
+    (λ c. search needs)
+    (λ c κs. search needs)
+    (λ c. search needs)
     returns-2
-    add-column-2
-    sub-column
-    add-column-3
-    column-requires-2
+    (λ c. search needs)
+    (λ c. search needs)
+    (λ c. search needs)
+    (λ c κs. search needs)
     sub-result
     returns-3
-    returns-4
+    (λ c. sym (ap₂ partitionsOf (c .if5 .taken) (c .before .if4 .taken) ∙ partitions-corner))
     returns-5
-    column-requires-3
+    (λ c κs. search needs)
     returns-6)

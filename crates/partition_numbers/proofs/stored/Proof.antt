@@ -8,35 +8,8 @@ use Rattle.partition_numbers.proofs.Tested.{spot, worked-out, InPlace, 
 use Rattle.partition_numbers.proofs.stored.Statement.{statement}
 use Rattle.partition_numbers.proofs.stored.Tie as tie
 
-add-result : tie.Need-add-result
-add-result c = search needs
-
-returns : tie.Need-returns
-returns c = let a = c .before .args in worked-out (a .e) (a .j) (c .before .pre) (c .if1 .taken)
-
-sub-at : tie.Need-sub-at
-sub-at c = search needs
-
 placed : (c : tie.Else1) → InPlace (c .before .args .e) (c .before .args .j)
 placed c = in-place (c .before .args .e) (c .before .args .j) (c .before .pre) (omega arith)
-
-mul-at : tie.Need-mul-at
-mul-at c = record { fits = omega (arith, placed c .below) }
-
-add-at : tie.Need-add-at
-add-at c = record { fits = omega (arith, placed c .below) }
-
-sub-at-2 : tie.Need-sub-at-2
-sub-at-2 c = placed c .from
-
-word-requires : tie.Need-word-requires
-word-requires c κs = search needs
-
-mul-result : tie.Need-mul-result
-mul-result c = record { fits = omega (arith, placed (c .before) .below) }
-
-shr-result : tie.Need-shr-result
-shr-result c = omega (arith, placed (c .before) .below)
 
 returns-2 : tie.Need-returns-2
 returns-2 c =
@@ -46,4 +19,4 @@ returns-2 c =
 pub stored-spec : {M : Type 1} → statement M
 stored-spec =
     tie.close
-    (tie.spec add-result returns sub-at mul-at add-at sub-at-2 word-requires mul-result shr-result returns-2)
+    (tie.spec (λ c. search needs) (λ c. let a = c .before .args in worked-out (a .e) (a .j) (c .before .pre) (c .if1 .taken)) (λ c. search needs) (λ c. record { fits = omega (arith, placed c .below) }) (λ c. record { fits = omega (arith, placed c .below) }) (λ c. placed c .from) (λ c κs. search needs) (λ c. record { fits = omega (arith, placed (c .before) .below) }) (λ c. omega (arith, placed (c .before) .below)) returns-2)

@@ -10,15 +10,14 @@ use Rattle.pascal.proofs.Tested.{ruled}
 use Rattle.pascal.proofs.entry.Statement.{statement}
 use Rattle.pascal.proofs.entry.Tie as tie
 
-returns : tie.Need-returns
-returns c = sym (choose-none (c .before .args .n) (c .before .args .k) (c .if1 .taken))
-
 read-or-climb-requires : tie.Need-read-or-climb-requires
 unfolding same rows step
 read-or-climb-requires c κs = ((omega arith, (omega arith, c .before .before .pre .1)), ruled _ refl)
 
-returns-2 : tie.Need-returns-2
-returns-2 c = search needs
-
 pub entry-spec : {M : Type 1} → statement M
-entry-spec = tie.close (tie.spec returns read-or-climb-requires returns-2)
+entry-spec =
+    tie.close
+    (tie.spec
+    (λ c. sym (choose-none (c .before .args .n) (c .before .args .k) (c .if1 .taken)))
+    read-or-climb-requires
+    (λ c. search needs))

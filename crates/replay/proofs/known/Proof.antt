@@ -16,26 +16,8 @@ Inv-loop calls i₀ i = (i ≤ length calls) × (known (drop i calls) ≡ known 
 abbrev μ-loop : tie.MeasureT-loop
 μ-loop calls i₀ i = length calls - i
 
-loop-holds : tie.Need-loop-holds Inv-loop μ-loop
-loop-holds c = (omega arith, refl)
-
-shared-slice-read-if1 : tie.Need-shared-slice-read-if1 Inv-loop μ-loop
-shared-slice-read-if1 c = omega arith
-
-returns : tie.Need-returns Inv-loop μ-loop
-returns c = let l = c .before .before .before in sym (sym (l .loop .inv .1) ∙ low (l .before .args .calls .now) (l .loop .i) (omega arith) (c .if1 .taken))
-
-shared-slice-read-if2 : tie.Need-shared-slice-read-if2 Inv-loop μ-loop
-shared-slice-read-if2 c = omega arith
-
 returns-2 : tie.Need-returns-2 Inv-loop μ-loop
 returns-2 c = let l = c .before .before .before .before .before in sym (sym (l .loop .inv .1) ∙ high (l .before .args .calls .now) (l .loop .i) (omega arith) (c .before .before .if1 .left) (c .if2 .taken))
-
-add-i : tie.Need-add-i Inv-loop μ-loop
-add-i c = omega arith
-
-loop-less : tie.Need-loop-less Inv-loop μ-loop
-loop-less c = omega arith
 
 loop-again : tie.Need-loop-again Inv-loop μ-loop
 loop-again c = let l = c .before .before .before .before .before in (omega arith, rw add-one (sym (known-on (l .before .args .calls .now) (l .loop .i) (omega arith) (c .before .before .if1 .left) (c .if2 .left)) ∙ l .loop .inv .1))
@@ -50,12 +32,12 @@ known-spec =
     (tie.spec
     Inv-loop
     μ-loop
-    loop-holds
-    shared-slice-read-if1
-    returns
-    shared-slice-read-if2
+    (λ c. (omega arith, refl))
+    (λ c. omega arith)
+    (λ c. let l = c .before .before .before in sym (sym (l .loop .inv .1) ∙ low (l .before .args .calls .now) (l .loop .i) (omega arith) (c .if1 .taken)))
+    (λ c. omega arith)
     returns-2
-    add-i
-    loop-less
+    (λ c. omega arith)
+    (λ c. omega arith)
     loop-again
     returns-3)

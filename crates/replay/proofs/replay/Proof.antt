@@ -9,35 +9,8 @@ use borrow.Author.Needs.{needs}
 use Rattle.replay.proofs.replay.Statement.{statement}
 use Rattle.replay.proofs.replay.Tie as tie
 
-known-requires : tie.Need-known-requires
-known-requires c κs = search needs
-
-returns : tie.Need-returns
-returns c = refuses _ _ _ _ _ (λ p. true≢false (sym (p .codes) ∙ sym (c .before .known .ensures) ∙ not-true _ (c .if1 .taken)))
-
-returns-2 : tie.Need-returns-2
-returns-2 c = refuses _ _ _ _ _ (λ p. omega (arith, p .ranked))
-
-returns-3 : tie.Need-returns-3
-returns-3 c = refuses _ _ _ _ _ (λ p. omega (arith, p .answered))
-
-is-product-requires : tie.Need-is-product-requires
-is-product-requires c κs = search needs
-
-returns-4 : tie.Need-returns-4
-returns-4 c = refuses _ _ _ _ _ (λ p. eqb-false _ _ (sym (c .before .is-product .ensures) ∙ not-true _ (c .if4 .taken)) (p .room))
-
 run-requires : tie.Need-run-requires
 run-requires c κs = (c .before .before .before .before .before .before .if2 .left, (c .before .before .before .before .before .if3 .left, eqb-true _ _ (sym (c .before .before .before .before .is-product .ensures) ∙ not-false _ (c .before .before .before .if4 .left))))
-
-same-length : tie.Need-same-length
-same-length c = search needs
-
-same-length-2 : tie.Need-same-length-2
-same-length-2 c = search needs
-
-same-length-3 : tie.Need-same-length-3
-same-length-3 c = search needs
 
 returns-5 : tie.Need-returns-5
 returns-5 c =
@@ -54,14 +27,14 @@ pub replay-spec : {M : Type 1} → statement M
 replay-spec =
     tie.close
     (tie.spec
-    known-requires
-    returns
-    returns-2
-    returns-3
-    is-product-requires
-    returns-4
+    (λ c κs. search needs)
+    (λ c. refuses _ _ _ _ _ (λ p. true≢false (sym (p .codes) ∙ sym (c .before .known .ensures) ∙ not-true _ (c .if1 .taken))))
+    (λ c. refuses _ _ _ _ _ (λ p. omega (arith, p .ranked)))
+    (λ c. refuses _ _ _ _ _ (λ p. omega (arith, p .answered)))
+    (λ c κs. search needs)
+    (λ c. refuses _ _ _ _ _ (λ p. eqb-false _ _ (sym (c .before .is-product .ensures) ∙ not-true _ (c .if4 .taken)) (p .room)))
     run-requires
-    same-length
-    same-length-2
-    same-length-3
+    (λ c. search needs)
+    (λ c. search needs)
+    (λ c. search needs)
     returns-5)

@@ -20,20 +20,8 @@ Inv-loop calls ranks f lists object₀ answers₀ trail₀ i₀ at₀ object ans
 abbrev μ-loop : tie.MeasureT-loop
 μ-loop calls ranks f lists object₀ answers₀ trail₀ i₀ at₀ object answers trail i at = length calls - i
 
-loop-holds : tie.Need-loop-holds Inv-loop μ-loop
-loop-holds c = (omega arith, (omega arith, (refl, (refl, (refl, start _ _ _ _ _ _ _)))))
-
-shared-slice-read-one-call : tie.Need-shared-slice-read-one-call Inv-loop μ-loop
-shared-slice-read-one-call c = omega arith
-
 mul-one-call : tie.Need-mul-one-call Inv-loop μ-loop
 mul-one-call c = omega (arith, c .before .before .before .before .before .before .before .before .pre, c .before .before .before .before .before .before .before .before .good .1 .1 .1 .0)
-
-shared-slice-read-one-call-2 : tie.Need-shared-slice-read-one-call-2 Inv-loop μ-loop
-shared-slice-read-one-call-2 c = omega (arith, c .before .before .before .before .before .before .before .before .before .pre)
-
-one-call-requires : tie.Need-one-call-requires Inv-loop μ-loop
-one-call-requires c κs = tt
 
 slice-write-answers : tie.Need-slice-write-answers Inv-loop μ-loop
 slice-write-answers c = omega (arith, c .before .before .before .before .before .before .before .before .before .before .before .before .before .pre, c .before .before .before .before .before .before .before .loop .inv)
@@ -49,12 +37,6 @@ add-at c =
     let l = c .before .before .before .before .before .before .before .before .before .before .before .before .loop in
     let a = c .before .before .before .before .before .before .before .before .before .before .before .before .before .before .before .before .before .before in
     omega (arith, a .pre, a .good, l .inv, c .before .before .before .before .before .before .before .one-call .kept .1 .1 .1 .1 .0, turn-within (l .i) (length (a .args .calls .now)) (length (a .args .object .now)) (c .before .before .before .before .before .before .before .before .before .before .before .loop-test .taken))
-
-add-i : tie.Need-add-i Inv-loop μ-loop
-add-i c = omega arith
-
-loop-less : tie.Need-loop-less Inv-loop μ-loop
-loop-less c = omega arith
 
 loop-again : tie.Need-loop-again Inv-loop μ-loop
 loop-again c =
@@ -79,15 +61,6 @@ loop-again c =
       ),
     )
 
-same-length : tie.Need-same-length Inv-loop μ-loop
-same-length c = c .before .loop .inv .1 .1 .0
-
-same-length-2 : tie.Need-same-length-2 Inv-loop μ-loop
-same-length-2 c = c .before .loop .inv .1 .1 .1 .0
-
-same-length-3 : tie.Need-same-length-3 Inv-loop μ-loop
-same-length-3 c = c .before .loop .inv .1 .1 .1 .1 .0
-
 returns : tie.Need-returns Inv-loop μ-loop
 returns c =
     let l = c .before .loop in
@@ -101,18 +74,18 @@ run-spec =
     (tie.spec
     Inv-loop
     μ-loop
-    loop-holds
-    shared-slice-read-one-call
+    (λ c. (omega arith, (omega arith, (refl, (refl, (refl, start _ _ _ _ _ _ _))))))
+    (λ c. omega arith)
     mul-one-call
-    shared-slice-read-one-call-2
-    one-call-requires
+    (λ c. omega (arith, c .before .before .before .before .before .before .before .before .before .pre))
+    (λ c κs. tt)
     slice-write-answers
     keep-requires
     add-at
-    add-i
-    loop-less
+    (λ c. omega arith)
+    (λ c. omega arith)
     loop-again
-    same-length
-    same-length-2
-    same-length-3
+    (λ c. c .before .loop .inv .1 .1 .0)
+    (λ c. c .before .loop .inv .1 .1 .1 .0)
+    (λ c. c .before .loop .inv .1 .1 .1 .1 .0)
     returns)

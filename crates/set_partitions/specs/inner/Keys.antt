@@ -1,4 +1,4 @@
--- What the key of the last model says, of a partition into k + 1 blocks, and where a rank comes among the keys in their order.
+-- Where a rank comes among the keys of the last model in their order, and what is left for the others.
 -- Assumes nothing.
 use mathlib.Core.Path.{_≡_}
 use mathlib.Core.Bool.{true}
@@ -8,16 +8,6 @@ use Rattle.listings.specs.Bytes.{Bytes}
 use Rattle.listings.specs.Places.{At}
 use Rattle.set_partitions.specs.Objects.{isSetPartition, keys}
 use Rattle.set_partitions.specs.Listing.{setPartitions}
-
--- the blocks of the others
-unfoldable pub othersIn : ℕ → ℕ → ℕ
-othersIn k zero = k
-othersIn k (suc b) = suc k
-
--- the block of the last model
-unfoldable pub blockOf : ℕ → ℕ → ℕ
-blockOf k zero = suc k
-blockOf k (suc b) = suc b
 
 -- how many partitions have the key, out of those with the last model alone and those with it in a given block of the others
 unfoldable pub having : ℕ → ℕ → ℕ → ℕ

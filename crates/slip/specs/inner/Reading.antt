@@ -1,7 +1,6 @@
 -- What the code's enums stand for among the grammar's options. Contracts of private functions only.
 -- Assumes nothing.
 use mathlib.Core.Path.{_≡_}
-use mathlib.Core.Bool.{Bool, true, false}
 use mathlib.Core.Option.{Option, none, some}
 use mathlib.Core.List.{List}
 use Prim.Native.Nat.{ℕ, _≤_}
@@ -19,8 +18,3 @@ parsedAs Malformed c = none
 -- a slip, if it is one, has at most n counts
 abbrev pub AtMost : Parsed → ℕ → Type 0
 AtMost p n = (f : Family) (m : ℕ) → p ≡ Read f m → m ≤ n
-
--- the buffer's counts, if each was a number
-unfoldable pub countsAs : Bool → List ℕ → Option (List ℕ)
-countsAs true c = some c
-countsAs false c = none

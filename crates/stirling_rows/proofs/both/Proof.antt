@@ -29,34 +29,10 @@ returns c =
     let none : a .k - 1 ≡ 0 = omega (arith, c .if1 .taken) in
     (sym (ap (stirlingOf (a .n)) none ∙ stirling-zero (a .n) (omega arith)), sym (ap (stirlingOf (a .n)) (c .if1 .taken) ∙ stirling-one (a .n) (omega arith)))
 
-sub-t5 : tie.Need-sub-t5
-sub-t5 c = search needs
-
-mul-t6 : tie.Need-mul-t6
-mul-t6 c = omega (arith, few-pairs (c .before .before .args .n) (omega arith))
-
 returns-2 : tie.Need-returns-2
 returns-2 c =
     let a = c .before .before .args in
     (all-but-one (a .n) (omega arith) ∙ ap (λ i. stirlingOf (a .n) (i - 1)) (sym (c .if2 .taken)), sym (ap (stirlingOf (a .n)) (c .if2 .taken) ∙ stirling-all (a .n)))
-
-sub-at : tie.Need-sub-at
-sub-at c = omega (arith, between c)
-
-sub-at-2 : tie.Need-sub-at-2
-sub-at-2 c = omega (arith, between c)
-
-mul-at : tie.Need-mul-at
-mul-at c = omega (arith, few-places (c .before .before .args .n) (omega arith))
-
-add-at : tie.Need-add-at
-add-at c = omega (arith, few-places (c .before .before .args .n) (omega arith))
-
-sub-at-3 : tie.Need-sub-at-3
-sub-at-3 c = omega (arith, between c)
-
-number-requires : tie.Need-number-requires
-number-requires c κs = search needs
 
 returns-3 : tie.Need-returns-3
 returns-3 c =
@@ -64,15 +40,6 @@ returns-3 c =
     let b = between (c .before .before) in
     let one : a .k - 1 ≡ 1 = omega (arith, c .before .if3 .taken) in
     (sym (ap (stirlingOf (a .n)) one ∙ stirling-one (a .n) (omega arith)), c .number .ensures ∙ there (a .n) (a .k) (omega arith) (b .0) (b .1))
-
-sub-number : tie.Need-sub-number
-sub-number c = omega (arith, between (c .before), c .if3 .left)
-
-number-requires-2 : tie.Need-number-requires-2
-number-requires-2 c κs = search needs
-
-number-requires-3 : tie.Need-number-requires-3
-number-requires-3 c κs = search needs
 
 returns-4 : tie.Need-returns-4
 returns-4 c =
@@ -85,17 +52,17 @@ both-spec =
     tie.close
     (tie.spec
     returns
-    sub-t5
-    mul-t6
+    (λ c. search needs)
+    (λ c. omega (arith, few-pairs (c .before .before .args .n) (omega arith)))
     returns-2
-    sub-at
-    sub-at-2
-    mul-at
-    add-at
-    sub-at-3
-    number-requires
+    (λ c. omega (arith, between c))
+    (λ c. omega (arith, between c))
+    (λ c. omega (arith, few-places (c .before .before .args .n) (omega arith)))
+    (λ c. omega (arith, few-places (c .before .before .args .n) (omega arith)))
+    (λ c. omega (arith, between c))
+    (λ c κs. search needs)
     returns-3
-    sub-number
-    number-requires-2
-    number-requires-3
+    (λ c. omega (arith, between (c .before), c .if3 .left))
+    (λ c κs. search needs)
+    (λ c κs. search needs)
     returns-4)

@@ -17,33 +17,12 @@ Inv-loop n k t₀ w rows d₀ t d = (1 ≤ d) × ((d ≤ rows) × Filled t w d)
 abbrev μ-loop : tie.MeasureT-loop
 μ-loop n k t₀ w rows d₀ t d = rows - d
 
-add-w : tie.Need-add-w Inv-loop μ-loop
-add-w c = omega arith
-
-sub-rows : tie.Need-sub-rows Inv-loop μ-loop
-sub-rows c = omega arith
-
-add-rows : tie.Need-add-rows Inv-loop μ-loop
-add-rows c = omega arith
-
-loop-holds : tie.Need-loop-holds Inv-loop μ-loop
-loop-holds c = (omega arith, (omega arith, c .pre .1))
-
 row-requires : tie.Need-row-requires Inv-loop μ-loop
 row-requires c κs =
     let a = c .before .before .before .args in
     let l = c .before .before .loop in
     let all : (a .n - a .k + 1) * (a .k + 1) ≤ capacity = below (a .n) (a .k) (omega arith) (omega arith) .room (omega arith) in
     ((omega arith, room (l .d) (a .n - a .k + 1) (a .k + 1) capacity (omega arith) all), (λ j h. all-fit (a .n) (a .k) (l .d) j (omega arith) (omega arith) (omega arith) (omega arith) (omega arith), l .inv .1 .1))
-
-add-d : tie.Need-add-d Inv-loop μ-loop
-add-d c = omega arith
-
-loop-less : tie.Need-loop-less Inv-loop μ-loop
-loop-less c = omega arith
-
-loop-again : tie.Need-loop-again Inv-loop μ-loop
-loop-again c = (omega arith, (omega arith, rw (add-one (c .before .before .before .loop .d)) (c .row .ensures)))
 
 returns : tie.Need-returns Inv-loop μ-loop
 returns c =
@@ -58,12 +37,12 @@ fill-spec =
     (tie.spec
     Inv-loop
     μ-loop
-    add-w
-    sub-rows
-    add-rows
-    loop-holds
+    (λ c. omega arith)
+    (λ c. omega arith)
+    (λ c. omega arith)
+    (λ c. (omega arith, (omega arith, c .pre .1)))
     row-requires
-    add-d
-    loop-less
-    loop-again
+    (λ c. omega arith)
+    (λ c. omega arith)
+    (λ c. (omega arith, (omega arith, rw (add-one (c .before .before .before .loop .d)) (c .row .ensures))))
     returns)

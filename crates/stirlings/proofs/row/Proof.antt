@@ -27,45 +27,6 @@ value c =
 fitting : (c : tie.After-left Inv-loop μ-loop) → band (c .before .before .before .args .d) (c .before .before .loop .j) < 2 ^ 64
 fitting c = c .before .before .before .pre .1 .0 (c .before .before .loop .j) (omega arith)
 
-mul-above : tie.Need-mul-above Inv-loop μ-loop
-mul-above c = omega arith
-
-sub-above : tie.Need-sub-above Inv-loop μ-loop
-sub-above c = least (c .args .d) (c .args .w) (omega arith)
-
-loop-holds : tie.Need-loop-holds Inv-loop μ-loop
-loop-holds c = let a = c .args in (omega (arith, least (a .d) (a .w) (omega arith)), (omega arith, begin (a .t .now) (a .d) (a .d * a .w)))
-
-mul-left : tie.Need-mul-left Inv-loop μ-loop
-mul-left c = omega arith
-
-element-copy-out-left : tie.Need-element-copy-out-left Inv-loop μ-loop
-element-copy-out-left c = omega arith
-
-mul-left-2 : tie.Need-mul-left-2 Inv-loop μ-loop
-mul-left-2 c = omega (arith, value c, fitting c)
-
-add-left : tie.Need-add-left Inv-loop μ-loop
-add-left c = omega (arith, value c, fitting c)
-
-add-t : tie.Need-add-t Inv-loop μ-loop
-add-t c = omega arith
-
-mul-t : tie.Need-mul-t Inv-loop μ-loop
-mul-t c = omega arith
-
-element-write-t : tie.Need-element-write-t Inv-loop μ-loop
-element-write-t c = omega arith
-
-add-above : tie.Need-add-above Inv-loop μ-loop
-add-above c = omega arith
-
-add-j : tie.Need-add-j Inv-loop μ-loop
-add-j c = omega arith
-
-loop-less : tie.Need-loop-less Inv-loop μ-loop
-loop-less c = omega arith
-
 loop-again : tie.Need-loop-again Inv-loop μ-loop
 loop-again c =
     let a = c .before .before .before .args in
@@ -86,18 +47,18 @@ row-spec =
     (tie.spec
     Inv-loop
     μ-loop
-    mul-above
-    sub-above
-    loop-holds
-    mul-left
-    element-copy-out-left
-    mul-left-2
-    add-left
-    add-t
-    mul-t
-    element-write-t
-    add-above
-    add-j
-    loop-less
+    (λ c. omega arith)
+    (λ c. least (c .args .d) (c .args .w) (omega arith))
+    (λ c. let a = c .args in (omega (arith, least (a .d) (a .w) (omega arith)), (omega arith, begin (a .t .now) (a .d) (a .d * a .w))))
+    (λ c. omega arith)
+    (λ c. omega arith)
+    (λ c. omega (arith, value c, fitting c))
+    (λ c. omega (arith, value c, fitting c))
+    (λ c. omega arith)
+    (λ c. omega arith)
+    (λ c. omega arith)
+    (λ c. omega arith)
+    (λ c. omega arith)
+    (λ c. omega arith)
     loop-again
     returns)

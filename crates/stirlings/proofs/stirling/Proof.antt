@@ -20,41 +20,11 @@ Inv-loop n k t₀ w rows d₀ t d = (d ≤ rows) × Row t w d
 abbrev μ-loop : tie.MeasureT-loop
 μ-loop n k t₀ w rows d₀ t d = rows - d
 
-entry-requires : tie.Need-entry-requires Inv-loop μ-loop
-entry-requires c κs = search needs
-
-returns : tie.Need-returns Inv-loop μ-loop
-returns c = search needs
-
-returns-2 : tie.Need-returns-2 Inv-loop μ-loop
-returns-2 c = let a = c .before .before .args in sym (stirling-none (a .n) (a .k) (c .if2 .taken))
-
-add-w : tie.Need-add-w Inv-loop μ-loop
-add-w c = omega arith
-
-loop-holds : tie.Need-loop-holds Inv-loop μ-loop
-loop-holds c = let a = c .before .before .args in (omega arith, row-of-ones (places + 1) (a .k + 1) refl (omega arith))
-
 next-row-requires : tie.Need-next-row-requires Inv-loop μ-loop
 next-row-requires c κs =
     let a = c .before .before .before .before .before .args in
     let l = c .before .before .loop in
     (omega arith, (λ j h. all-fit (a .n) (a .k) (suc (l .d)) j (omega arith) (omega arith) (omega arith) (omega arith) (omega arith), l .inv .1))
-
-add-d : tie.Need-add-d Inv-loop μ-loop
-add-d c = omega arith
-
-loop-less : tie.Need-loop-less Inv-loop μ-loop
-loop-less c = omega arith
-
-loop-again : tie.Need-loop-again Inv-loop μ-loop
-loop-again c = (omega arith, rw (add-one (c .before .before .before .loop .d)) (c .next-row .ensures))
-
-mul-result : tie.Need-mul-result Inv-loop μ-loop
-mul-result c = omega arith
-
-array-read-result : tie.Need-array-read-result Inv-loop μ-loop
-array-read-result c = omega arith
 
 returns-3 : tie.Need-returns-3 Inv-loop μ-loop
 returns-3 c =
@@ -69,15 +39,15 @@ stirling-spec =
     (tie.spec
     Inv-loop
     μ-loop
-    entry-requires
-    returns
-    returns-2
-    add-w
-    loop-holds
+    (λ c κs. search needs)
+    (λ c. search needs)
+    (λ c. let a = c .before .before .args in sym (stirling-none (a .n) (a .k) (c .if2 .taken)))
+    (λ c. omega arith)
+    (λ c. let a = c .before .before .args in (omega arith, row-of-ones (places + 1) (a .k + 1) refl (omega arith)))
     next-row-requires
-    add-d
-    loop-less
-    loop-again
-    mul-result
-    array-read-result
+    (λ c. omega arith)
+    (λ c. omega arith)
+    (λ c. (omega arith, rw (add-one (c .before .before .before .loop .d)) (c .next-row .ensures)))
+    (λ c. omega arith)
+    (λ c. omega arith)
     returns-3)

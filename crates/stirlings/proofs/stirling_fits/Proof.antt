@@ -21,15 +21,6 @@ none-fit n k h = sym (lt-ltb (stirlingOf n k) (2 ^ 64) (omega (arith, stirling-n
 few-fit : (n k : ℕ) → n ≤ lastRow → true ≡ ltb (stirlingOf n k) (2 ^ 64)
 few-fit n k h = elim (decLt n k) [ yes g ↦ none-fit n k g | no g ↦ sym (small n k h (omega arith)) ]
 
-returns : tie.Need-returns
-returns c = let a = c .before .args in few-fit (a .n) (a .k) (c .if1 .taken)
-
-returns-2 : tie.Need-returns-2
-returns-2 c = let a = c .before .before .args in none-fit (a .n) (a .k) (c .if2 .taken)
-
-last-column-requires : tie.Need-last-column-requires
-last-column-requires c κs = search needs
-
 returns-3 : tie.Need-returns-3
 returns-3 c =
     let a = c .before .before .before .args in
@@ -37,4 +28,10 @@ returns-3 c =
     sym (ap (λ (m : ℕ). ltb (stirlingOf m (a .k)) (2 ^ 64)) (sym e) ∙ c .last-column .ensures .fits (a .k) (omega arith))
 
 pub stirling-fits-spec : {M : Type 1} → statement M
-stirling-fits-spec = tie.close (tie.spec returns returns-2 last-column-requires returns-3)
+stirling-fits-spec =
+    tie.close
+    (tie.spec
+    (λ c. let a = c .before .args in few-fit (a .n) (a .k) (c .if1 .taken))
+    (λ c. let a = c .before .before .args in none-fit (a .n) (a .k) (c .if2 .taken))
+    (λ c κs. search needs)
+    returns-3)

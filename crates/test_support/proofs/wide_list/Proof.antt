@@ -16,57 +16,21 @@ Inv-loop line start out₀ len₀ at₀ out len at = (length out ≡ length out�
 abbrev μ-loop : tie.MeasureT-loop
 μ-loop line start out₀ len₀ at₀ out len at = length out₀ - len
 
-loop-holds : tie.Need-loop-holds Inv-loop μ-loop
-loop-holds c = search needs
-
-at-end-requires : tie.Need-at-end-requires Inv-loop μ-loop
-at-end-requires c κs = search needs
-
-decimal-requires : tie.Need-decimal-requires Inv-loop μ-loop
-decimal-requires c κs = search needs
-
-mul-out : tie.Need-mul-out Inv-loop μ-loop
-mul-out c = search needs
-
-slice-write-out : tie.Need-slice-write-out Inv-loop μ-loop
-slice-write-out c = search needs
-
-add-len : tie.Need-add-len Inv-loop μ-loop
-add-len c = search needs
-
-loop-less : tie.Need-loop-less Inv-loop μ-loop
-loop-less c = omega (arith, ltb-true)
-
-loop-again : tie.Need-loop-again Inv-loop μ-loop
-loop-again c = (search needs, simp length-set (omega (arith, ltb-true)))
-
-same-length : tie.Need-same-length Inv-loop μ-loop
-same-length c = search needs
-
-returns : tie.Need-returns Inv-loop μ-loop
-returns c = search (needs, counted)
-
-same-length-2 : tie.Need-same-length-2 Inv-loop μ-loop
-same-length-2 c = search needs
-
-returns-2 : tie.Need-returns-2 Inv-loop μ-loop
-returns-2 c = search (needs, counted)
-
 pub wide-list-spec : {M : Type 1} → statement M
 wide-list-spec =
     tie.close
     (tie.spec
     Inv-loop
     μ-loop
-    loop-holds
-    at-end-requires
-    decimal-requires
-    mul-out
-    slice-write-out
-    add-len
-    loop-less
-    loop-again
-    same-length
-    returns
-    same-length-2
-    returns-2)
+    (λ c. search needs)
+    (λ c κs. search needs)
+    (λ c κs. search needs)
+    (λ c. search needs)
+    (λ c. search needs)
+    (λ c. search needs)
+    (λ c. omega (arith, ltb-true))
+    (λ c. (search needs, simp length-set (omega (arith, ltb-true))))
+    (λ c. search needs)
+    (λ c. search (needs, counted))
+    (λ c. search needs)
+    (λ c. search (needs, counted)))

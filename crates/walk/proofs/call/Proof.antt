@@ -5,27 +5,9 @@ use borrow.Author.Needs.{needs}
 use Rattle.walk.proofs.call.Statement.{statement}
 use Rattle.walk.proofs.call.Tie as tie
 
-enum-told : tie.Need-enum-told
-enum-told c = search needs
-
-next-requires : tie.Need-next-requires
-next-requires c κs = search needs
-
-enum-told-2 : tie.Need-enum-told-2
-enum-told-2 c = search needs
-
-previous-requires : tie.Need-previous-requires
-previous-requires c κs = search needs
-
-same-length : tie.Need-same-length
-same-length c = search needs
-
 returns : tie.Need-returns
 unfolding callOf
 returns c = rw (c .before .before .before .before .enum-told .given .1) (c .before .before .next .ensures)
-
-same-length-2 : tie.Need-same-length-2
-same-length-2 c = search needs
 
 returns-2 : tie.Need-returns-2
 unfolding callOf
@@ -35,11 +17,11 @@ pub call-spec : {M : Type 1} → statement M
 call-spec =
     tie.close
     (tie.spec
-    enum-told
-    next-requires
-    enum-told-2
-    previous-requires
-    same-length
+    (λ c. search needs)
+    (λ c κs. search needs)
+    (λ c. search needs)
+    (λ c κs. search needs)
+    (λ c. search needs)
     returns
-    same-length-2
+    (λ c. search needs)
     returns-2)

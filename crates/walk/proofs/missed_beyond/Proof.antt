@@ -6,24 +6,6 @@ use borrow.Author.Needs.{needs}
 use Rattle.walk.proofs.missed_beyond.Statement.{statement}
 use Rattle.walk.proofs.missed_beyond.Tie as tie
 
-opening-requires : tie.Need-opening-requires
-opening-requires c κs = search needs
-
-enum-known-q : tie.Need-enum-known-q
-enum-known-q c = search needs
-
-enum-told : tie.Need-enum-told
-enum-told c = search needs
-
-rank-below-requires : tie.Need-rank-below-requires
-rank-below-requires c κs = search needs
-
-enum-known-p : tie.Need-enum-known-p
-enum-known-p c = search needs
-
-enum-told-2 : tie.Need-enum-told-2
-enum-told-2 c = search needs
-
 returns : tie.Need-returns
 returns c size holds number large =
     rank-missed _ _ _ _ number
@@ -41,12 +23,12 @@ pub missed-beyond-spec : {M : Type 1} → statement M
 missed-beyond-spec =
     tie.close
     (tie.spec
-    opening-requires
-    enum-known-q
-    enum-told
-    rank-below-requires
-    enum-known-p
-    enum-told-2
+    (λ c κs. search needs)
+    (λ c. search needs)
+    (λ c. search needs)
+    (λ c κs. search needs)
+    (λ c. search needs)
+    (λ c. search needs)
     returns
     returns-2
     returns-3)

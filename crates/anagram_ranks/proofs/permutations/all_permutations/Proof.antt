@@ -16,17 +16,14 @@ use Rattle.anagram_ranks.proofs.permutations.all_permutations.Tie as ti
 answer : (c : tie.After-factorial) → c .factorial .result ≡ fits (factorialOf (c .before .args .n))
 answer c = c .factorial .ensures ∙ within-in _ _ (le-leb _ places (c .before .pre .0))
 
-factorial-requires : tie.Need-factorial-requires
-factorial-requires c κs = search needs
-
-enum-known-v : tie.Need-enum-known-v
-enum-known-v c = search needs
-
 returns : tie.Need-returns
 returns c = ⊎-elim (λ z. absurd (omega arith)) (λ z. absurd (omega arith)) (rw (answer (c .before) ∙ fits-small _ (c .before .before .pre .1)) at (c .match .keys2))
 
-returns-2 : tie.Need-returns-2
-returns-2 c = sym (exactly _ _ (sym (answer (c .before .before .before)) ∙ c .before .v .given .1))
-
 pub all-permutations-spec : {M : Type 1} → statement M
-all-permutations-spec = tie.close (tie.spec factorial-requires enum-known-v returns returns-2)
+all-permutations-spec =
+    tie.close
+    (tie.spec
+    (λ c κs. search needs)
+    (λ c. search needs)
+    returns
+    (λ c. sym (exactly _ _ (sym (answer (c .before .before .before)) ∙ c .before .v .given .1))))

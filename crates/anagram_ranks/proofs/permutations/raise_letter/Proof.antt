@@ -6,14 +6,5 @@ use borrow.Author.Needs.{needs}
 use Rattle.anagram_ranks.proofs.permutations.raise_letter.Statement.{statement}
 use Rattle.anagram_ranks.proofs.permutations.raise_letter.Tie as tie
 
-add-result : tie.Need-add-result
-add-result c = search needs
-
-returns : tie.Need-returns
-returns c = sym (raised-up _ _ (c .if1 .taken))
-
-returns-2 : tie.Need-returns-2
-returns-2 c = sym (raised-not _ _ (c .if1 .left))
-
 pub raise-letter-spec : {M : Type 1} → statement M
-raise-letter-spec = tie.close (tie.spec add-result returns returns-2)
+raise-letter-spec = tie.close (tie.spec (λ c. search needs) (λ c. sym (raised-up _ _ (c .if1 .taken))) (λ c. sym (raised-not _ _ (c .if1 .left))))

@@ -16,17 +16,14 @@ use Rattle.anagram_ranks.proofs.ranking.all_words.Tie as tie
 answer : (c : tie.After-multinomial) → c .multinomial .result ≡ fits (multinomialOf (c .before .before .args .counts .now))
 answer c = c .multinomial .ensures ∙ within-in _ _ (le-leb _ places (c .before .before .pre .0))
 
-multinomial-requires : tie.Need-multinomial-requires
-multinomial-requires c κs = search needs
-
-enum-known-v : tie.Need-enum-known-v
-enum-known-v c = search needs
-
 returns : tie.Need-returns
 returns c = ⊎-elim (λ z. absurd (omega arith)) (λ z. absurd (omega arith)) (rw (answer (c .before) ∙ fits-small _ (c .before .before .before .pre .1)) at (c .match .keys2))
 
-returns-2 : tie.Need-returns-2
-returns-2 c = sym (exactly _ _ (sym (answer (c .before .before .before)) ∙ c .before .v .given .1))
-
 pub all-words-spec : {M : Type 1} → statement M
-all-words-spec = tie.close (tie.spec multinomial-requires enum-known-v returns returns-2)
+all-words-spec =
+    tie.close
+    (tie.spec
+    (λ c κs. search needs)
+    (λ c. search needs)
+    returns
+    (λ c. sym (exactly _ _ (sym (answer (c .before .before .before)) ∙ c .before .v .given .1))))

@@ -3,9 +3,10 @@
 use mathlib.Core.Path.{_≡_, _∙_, ap}
 use Prim.Native.Nat.{_*_, _+_, _-_, _/_, _<_, _≤_, ℕ}
 use native.Mathlib.Omega.{arith}
-use lib.ListN.{length, take}
-use Rattle.numbers.specs.Sums.{total}
-use Rattle.anagram_ranks.proofs.Shares.{letters-behind, start-le, total-take-le, total-take-more}
+use lib.ListN.{length, take, getD}
+use Rattle.basics.specs.Sums.{total}
+use Rattle.basics.proofs.Totals.{total-take-le, total-take-more}
+use Rattle.anagram_ranks.proofs.Ranks.{letters-behind, start-le}
 use Rattle.anagram_ranks.proofs.ranking.letter_of.Statement.{statement}
 use Rattle.anagram_ranks.proofs.ranking.letter_of.Tie as tie
 
@@ -20,46 +21,20 @@ some : (c : tie.Start Inv-loop μ-loop) → 0 < length (c .args .left .now)
 some c = let a = c .args in letters-behind (a .left .now) 0 (a .words) (a .m) (a .rank) (omega arith) (omega arith) (start-le (a .left .now) _ _ _) (omega arith)
 
 -- the words that start with letter a or an earlier one
-through : (c : tie.After-share Inv-loop μ-loop) → c .share .result ≡ c .before .before .before .before .before .args .words * total (take (c .before .loop .a + 1) (c .before .before .before .before .before .args .left .now)) / c .before .before .before .before .before .args .m
-through c = c .share .ensures ∙ ap (λ (n : ℕ). c .before .before .before .before .before .args .words * n / c .before .before .before .before .before .args .m) (c .before .loop .inv .1 .0)
+through : (c : tie.After-share Inv-loop μ-loop) → let a = c .before .before .before .before .before .args in c .share .result ≡ a .words * total (take (c .before .loop .a + 1) (a .left .now)) / a .m
+through c = let a = c .before .before .before .before .before .args in c .share .ensures ∙ ap (λ (n : ℕ). a .words * n / a .m) (c .before .loop .inv .1 .0)
 
 -- where they fit into the rank, there is one more letter
 more : (c : tie.Then1 Inv-loop μ-loop) → c .before .before .loop .a + 1 < length (c .before .before .before .before .before .before .args .left .now)
-more c = let a = c .before .before .before .before .before .before .args in letters-behind (a .left .now) (c .before .before .loop .a + 1) (a .words) (a .m) (a .rank) (omega arith) (omega arith) (omega (arith, through (c .before))) (omega arith)
-
-shared-slice-read-wide : tie.Need-shared-slice-read-wide Inv-loop μ-loop
-shared-slice-read-wide c = some (c .before .before)
-
-wide-requires : tie.Need-wide-requires Inv-loop μ-loop
-wide-requires c κs = tt
+more c = let a = c .before .before .before .before .before .before .args in letters-behind (a .left .now) _ (a .words) (a .m) (a .rank) (omega arith) (omega arith) (rw (through (c .before)) at (c .if1 .taken)) (omega arith)
 
 loop-holds : tie.Need-loop-holds Inv-loop μ-loop
 unfolding total
-loop-holds c = let l = c .before .before .before .args .left .now in (some (c .before .before .before), (omega (arith, total-take-more l 0), start-le l _ _ _))
+loop-holds c = let l = c .before .before .before .args .left .now in (some (c .before .before .before), (omega (arith, total-take-more l 0 (some (c .before .before .before))), start-le l _ _ _))
 
-share-requires : tie.Need-share-requires Inv-loop μ-loop
-share-requires c κs = omega (arith, total-take-le (c .before .before .before .before .args .left .now) (c .loop .a + 1))
-
-add-a : tie.Need-add-a Inv-loop μ-loop
-add-a c = omega arith
-
-shared-slice-read-wide-2 : tie.Need-shared-slice-read-wide-2 Inv-loop μ-loop
-shared-slice-read-wide-2 c = more (c .before)
-
-wide-requires-2 : tie.Need-wide-requires-2 Inv-loop μ-loop
-wide-requires-2 c κs = tt
-
-add-s : tie.Need-add-s Inv-loop μ-loop
-add-s c = let l = c .before .before .before .before .before .before .before .before .args .left .now in let a = c .before .before .before .before .loop .a + 1 in omega (arith, total-take-more l a, total-take-le l (a + 1))
-
-loop-less : tie.Need-loop-less Inv-loop μ-loop
-loop-less c = omega (arith, more (c .before .before))
-
-loop-again : tie.Need-loop-again Inv-loop μ-loop
-loop-again c = omega (arith, more (c .before .before), total-take-more (c .before .before .before .before .before .before .before .before .args .left .now) (c .before .before .before .before .loop .a + 1), through (c .before .before .before))
-
-returns : tie.Need-returns Inv-loop μ-loop
-returns c = omega (arith, through (c .before))
+-- whose words are counted with it
+next : (c : tie.Then1 Inv-loop μ-loop) → let l = c .before .before .before .before .before .before .args .left .now in let a = c .before .before .loop .a + 1 in total (take (a + 1) l) ≡ total (take a l) + getD l a 0
+next c = total-take-more _ _ (more c)
 
 pub letter-of-spec : {M : Type 1} → statement M
 letter-of-spec =
@@ -67,14 +42,14 @@ letter-of-spec =
     (tie.spec
     Inv-loop
     μ-loop
-    shared-slice-read-wide
-    wide-requires
+    (λ c. some (c .before .before))
+    (λ c κs. tt)
     loop-holds
-    share-requires
-    add-a
-    shared-slice-read-wide-2
-    wide-requires-2
-    add-s
-    loop-less
-    loop-again
-    returns)
+    (λ c κs. omega (arith, total-take-le (c .before .before .before .before .args .left .now) (c .loop .a + 1)))
+    (λ c. omega arith)
+    (λ c. more (c .before))
+    (λ c κs. tt)
+    (λ c. omega (arith, next (c .before .before), total-take-le (c .before .before .before .before .before .before .before .before .args .left .now) (c .before .before .before .before .loop .a + 1 + 1)))
+    (λ c. omega (arith, more (c .before .before)))
+    (λ c. omega (arith, more (c .before .before), next (c .before .before), through (c .before .before .before)))
+    (λ c. omega (arith, through (c .before))))

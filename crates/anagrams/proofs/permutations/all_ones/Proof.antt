@@ -2,12 +2,9 @@
 -- Assumes nothing.
 use mathlib.Core.Path.{refl}
 use Rattle.numbers.specs.Limits.{longestObject}
-use Rattle.anagrams.proofs.Ones.{take-ones}
+use Rattle.basics.proofs.Lists.{take-replicate}
 use Rattle.anagrams.proofs.permutations.all_ones.Statement.{statement}
 use Rattle.anagrams.proofs.permutations.all_ones.Tie as tie
 
-returns : tie.Need-returns
-returns c = (refl, λ n h. take-ones longestObject n h)
-
 pub all-ones-spec : {M : Type 1} → statement M
-all-ones-spec = tie.close (tie.spec returns)
+all-ones-spec = tie.close (tie.spec (λ c. (refl, λ n h. take-replicate longestObject n 1 h)))

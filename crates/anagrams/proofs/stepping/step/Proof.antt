@@ -3,23 +3,13 @@
 use mathlib.Core.Path.{_≡_}
 use native.Mathlib.Omega.{arith}
 use Prim.Native.Nat.{_+_, _-_}
-use Rattle.anagrams.proofs.Neighbours.{ended}
-use Rattle.anagrams.proofs.Moves.{step-made}
 use borrow.Author.Needs.{needs}
+use Rattle.listings.proofs.Stepping.{steps, stops}
+use Rattle.anagrams.proofs.Theorem.{lists}
+use Rattle.anagrams.proofs.Places.{spent-edge}
+use Rattle.anagrams.proofs.Swaps.{step-made}
 use Rattle.anagrams.proofs.stepping.step.Statement.{statement}
 use Rattle.anagrams.proofs.stepping.step.Tie as tie
-
-tail-start-requires : tie.Need-tail-start-requires
-tail-start-requires c κs = search needs
-
-same-length : tie.Need-same-length
-same-length c = search needs
-
-returns : tie.Need-returns
-returns c = λ cs o. ended _ cs _ o (rw (c .if1 .taken) at (c .before .tail-start .ensures .0))
-
-sub-pivot : tie.Need-sub-pivot
-sub-pivot c = search needs
 
 last-beyond-requires : tie.Need-last-beyond-requires
 last-beyond-requires c κs =
@@ -27,44 +17,27 @@ last-beyond-requires c κs =
     let there = c .before .before .tail-start .ensures .1 (omega arith) in
     (rw e (there .0), rw e (there .1))
 
-swap-requires : tie.Need-swap-requires
-swap-requires c κs = search needs
-
-sub-turn-round : tie.Need-sub-turn-round
-sub-turn-round c = search needs
-
-part-turn-round-start : tie.Need-part-turn-round-start
-part-turn-round-start c = search needs
-
-part-turn-round-end : tie.Need-part-turn-round-end
-part-turn-round-end c = search needs
-
-turn-round-requires : tie.Need-turn-round-requires
-turn-round-requires c κs = search needs
-
-same-length-2 : tie.Need-same-length-2
-same-length-2 c = search needs
-
 returns-2 : tie.Need-returns-2
 returns-2 c = λ cs o.
     let start = c .before .before .before .before .before .before .before .before .before .before .before .tail-start in
     let found = c .before .before .before .before .before .before .before .before .last-beyond in
-    step-made _ cs _ _ _ (start .result) (found .result) (omega arith) (omega arith) (found .ensures .0 .1)
-    (found .ensures .1 .0) (start .ensures .0) (found .ensures .1 .1) (c .before .before .before .before .before .before .swap .ensures) (c .before .before .turn-round .ensures) o
+    steps (lists cs)
+    (step-made _ (start .result) (found .result) (omega arith) (omega arith) (found .ensures .0 .1) _ cs _ _
+    (found .ensures .1 .0) (start .ensures .0) (found .ensures .1 .1) (c .before .before .before .before .before .before .swap .ensures) (c .before .before .turn-round .ensures) o)
 
 pub step-spec : {M : Type 1} → statement M
 step-spec =
     tie.close
     (tie.spec
-    tail-start-requires
-    same-length
-    returns
-    sub-pivot
+    (λ c κs. search needs)
+    (λ c. search needs)
+    (λ c. λ cs o. stops (lists cs) (spent-edge _ cs _ o (rw (c .if1 .taken) at (c .before .tail-start .ensures .0))))
+    (λ c. search needs)
     last-beyond-requires
-    swap-requires
-    sub-turn-round
-    part-turn-round-start
-    part-turn-round-end
-    turn-round-requires
-    same-length-2
+    (λ c κs. search needs)
+    (λ c. search needs)
+    (λ c. search needs)
+    (λ c. search needs)
+    (λ c κs. search needs)
+    (λ c. search needs)
     returns-2)

@@ -26,125 +26,40 @@ field-at t = and 1 field-kinds.ps (is 1 field-kinds.ps μ-field t) field.Pre
 abbrev field-below : ℕ → In 1 field-kinds.ps
 field-below t = and 1 field-kinds.ps (falls 1 field-kinds.ps _<_ μ-field t) field.Pre
 
-field-returns : (t : ℕ) → field-lts.Need-returns (
-  field-below t,
-  field.Post,
-  digits-reads.Asked,
-  digits-reads.Learnt,
-) (field-at t) field.Post
+abbrev claims : ℕ → field-lts.Claims
+claims t = (field-below t, field.Post, digits-reads.Asked, digits-reads.Learnt)
+
+field-returns : (t : ℕ) → field-lts.Need-returns (claims t) (field-at t) field.Post
 unfolding valueAs
 field-returns t c = sym (field-none (c .before .before .args .part .now) (c .if1 .taken))
 
-field-shared-slice-read-if2 : (t : ℕ) → field-lts.Need-shared-slice-read-if2 (
-  field-below t,
-  field.Post,
-  digits-reads.Asked,
-  digits-reads.Learnt,
-) (field-at t) field.Post
-field-shared-slice-read-if2 t c = search needs
-
-field-sub-field : (t : ℕ) → field-lts.Need-sub-field (
-  field-below t,
-  field.Post,
-  digits-reads.Asked,
-  digits-reads.Learnt,
-) (field-at t) field.Post
-field-sub-field t c = search needs
-
-field-part-field-start : (t : ℕ) → field-lts.Need-part-field-start (
-  field-below t,
-  field.Post,
-  digits-reads.Asked,
-  digits-reads.Learnt,
-) (field-at t) field.Post
-field-part-field-start t c = search needs
-
-field-part-field-end : (t : ℕ) → field-lts.Need-part-field-end (
-  field-below t,
-  field.Post,
-  digits-reads.Asked,
-  digits-reads.Learnt,
-) (field-at t) field.Post
-field-part-field-end t c = search needs
-
-field-field-requires : (t : ℕ) → field-lts.Need-field-requires (
-  field-below t,
-  field.Post,
-  digits-reads.Asked,
-  digits-reads.Learnt,
-) (field-at t) field.Post
-field-field-requires t c κs = search needs
-
-field-returns-2 : (t : ℕ) → field-lts.Need-returns-2 (
-  field-below t,
-  field.Post,
-  digits-reads.Asked,
-  digits-reads.Learnt,
-) (field-at t) field.Post
+field-returns-2 : (t : ℕ) → field-lts.Need-returns-2 (claims t) (field-at t) field.Post
 field-returns-2 t c =
     let x = c .before .before .before .before .before .before .args .part .now in
     c .field .ensures ∙ ap fieldOf (rest-is x 1) ∙ sym (field-blank x (c .before .before .if2 .taken))
 
-field-shared-slice-read-if3 : (t : ℕ) → field-lts.Need-shared-slice-read-if3 (
-  field-below t,
-  field.Post,
-  digits-reads.Asked,
-  digits-reads.Learnt,
-) (field-at t) field.Post
-field-shared-slice-read-if3 t c = search needs
-
-field-returns-3 : (t : ℕ) → field-lts.Need-returns-3 (
-  field-below t,
-  field.Post,
-  digits-reads.Asked,
-  digits-reads.Learnt,
-) (field-at t) field.Post
+field-returns-3 : (t : ℕ) → field-lts.Need-returns-3 (claims t) (field-at t) field.Post
 unfolding valueAs
 field-returns-3 t c = sym (field-lone (c .before .before .before .before .before .before .before .args .part .now) (c .if4 .taken) (c .before .if3 .taken))
 
-field-returns-4 : (t : ℕ) → field-lts.Need-returns-4 (
-  field-below t,
-  field.Post,
-  digits-reads.Asked,
-  digits-reads.Learnt,
-) (field-at t) field.Post
+field-returns-4 : (t : ℕ) → field-lts.Need-returns-4 (claims t) (field-at t) field.Post
 unfolding valueAs
 field-returns-4 t c = sym (field-leading (c .before .before .before .before .before .before .before .args .part .now) (c .if4 .left) (c .before .if3 .taken))
 
-field-digits-requires : (t : ℕ) → field-lts.Need-digits-requires (
-  field-below t,
-  field.Post,
-  digits-reads.Asked,
-  digits-reads.Learnt,
-) (field-at t) field.Post
-field-digits-requires t c κs = search needs
-
-field-returns-5 : (t : ℕ) → field-lts.Need-returns-5 (
-  field-below t,
-  field.Post,
-  digits-reads.Asked,
-  digits-reads.Learnt,
-) (field-at t) field.Post
+field-returns-5 : (t : ℕ) → field-lts.Need-returns-5 (claims t) (field-at t) field.Post
 field-returns-5 t c = c .digits .ensures ∙ sym (field-number (c .before .before .before .before .before .before .before .args .part .now) (c .before .before .before .before .before .if1 .left) (c .before .before .before .if2 .left) (c .before .if3 .left))
 
 pub +field-spec : {M : Type 1} → statement M
-+field-spec = close μ-field λ t. field-lts.spec (
-  field-below t,
-  field.Post,
-  digits-reads.Asked,
-  digits-reads.Learnt,
-)
-    (field-at t)
-    field.Post
++field-spec = close μ-field λ t. field-lts.spec (claims t) (field-at t) field.Post
     (field-returns t)
-    (field-shared-slice-read-if2 t)
-    (field-sub-field t)
-    (field-part-field-start t)
-    (field-part-field-end t)
-    (field-field-requires t)
+    (λ c. search needs)
+    (λ c. search needs)
+    (λ c. search needs)
+    (λ c. search needs)
+    (λ c κs. search needs)
     (field-returns-2 t)
-    (field-shared-slice-read-if3 t)
+    (λ c. search needs)
     (field-returns-3 t)
     (field-returns-4 t)
-    (field-digits-requires t)
+    (λ c κs. search needs)
     (field-returns-5 t)

@@ -23,15 +23,6 @@ abbrev μ-loop : tie.MeasureT-loop
 small : (i : ℕ) → i ≤ 3 → 10 ^ i ≤ 1000
 small i h = pow-le-pow-right {n = 10} (omega arith) h
 
-loop-holds : tie.Need-loop-holds Inv-loop μ-loop
-loop-holds c = search needs
-
-shared-slice-read-b : tie.Need-shared-slice-read-b Inv-loop μ-loop
-shared-slice-read-b c = search needs
-
-cast-b : tie.Need-cast-b Inv-loop μ-loop
-cast-b c = omega (arith, c .shared-slice-known .given (c .before .before .loop .i))
-
 returns : tie.Need-returns Inv-loop μ-loop
 unfolding valueAs
 returns c =
@@ -45,18 +36,6 @@ returns-2 c =
     let x = c .before .before .before .before .before .args .part .now in
     let l = c .before .before .before .before .loop in
     sym (digits-at x (l .i) (l .v) (c .before .before .before .loop-test .taken) ∙ digit-high (l .v) (getD x (l .i) 0) (drop (l .i + 1) x) (c .if2 .taken)) ∙ l .inv .1 .1
-
-mul-v : tie.Need-mul-v Inv-loop μ-loop
-mul-v c = omega (arith, small (c .before .before .before .before .loop .i) (omega arith))
-
-add-v : tie.Need-add-v Inv-loop μ-loop
-add-v c = omega (arith, small (c .before .before .before .before .loop .i) (omega arith))
-
-add-i : tie.Need-add-i Inv-loop μ-loop
-add-i c = search needs
-
-loop-less : tie.Need-loop-less Inv-loop μ-loop
-loop-less c = search needs
 
 loop-again : tie.Need-loop-again Inv-loop μ-loop
 loop-again c =
@@ -81,14 +60,14 @@ digits-spec =
     (tie.spec
     Inv-loop
     μ-loop
-    loop-holds
-    shared-slice-read-b
-    cast-b
+    (λ c. search needs)
+    (λ c. search needs)
+    (λ c. omega (arith, c .shared-slice-known .given (c .before .before .loop .i)))
     returns
     returns-2
-    mul-v
-    add-v
-    add-i
-    loop-less
+    (λ c. omega (arith, small (c .before .before .before .before .loop .i) (omega arith)))
+    (λ c. omega (arith, small (c .before .before .before .before .loop .i) (omega arith)))
+    (λ c. search needs)
+    (λ c. search needs)
     loop-again
     returns-3)

@@ -12,7 +12,7 @@ use types.Run.{OneOf}
 use denote.Enum.Declared.{tagOf}
 use borrow.Author.Needs.{needs}
 use Rattle.numbers.specs.Limits.{places}
-use Rattle.numbers.specs.Sums.{total}
+use Rattle.basics.specs.Sums.{total}
 use Rattle.numbers.specs.Numbers.{choose, multinomialOf}
 use Rattle.counting.specs.declared.Count.{Count}
 use Rattle.counting.specs.declared.Count.the-variants.{Exactly, TooLarge}
@@ -20,7 +20,7 @@ use Rattle.counting.specs.Answers.{fits}
 use Rattle.counting.proofs.Count.{the-type}
 use Rattle.counting.proofs.Answers.{answered, exactly, fits-small, fits-large}
 use Rattle.numbers.proofs.Multinomials.{drop-le, head-le}
-use Rattle.numbers.proofs.Totals.{total-drop-le}
+use Rattle.basics.proofs.Totals.{total-drop-le}
 use Rattle.counting.proofs.product.of_binomials.Statement.{statement}
 use Rattle.counting.proofs.product.of_binomials.Tie as tie
 
@@ -81,49 +81,22 @@ Inv-loop counts words₀ size₀ i₀ words size i = Words counts words size i
 abbrev μ-loop : tie.MeasureT-loop
 μ-loop counts words₀ size₀ i₀ words size i = i
 
-loop-holds : tie.Need-loop-holds Inv-loop μ-loop
-loop-holds c = start _
-
-sub-i : tie.Need-sub-i Inv-loop μ-loop
-sub-i c = omega arith
-
-shared-slice-read-wide : tie.Need-shared-slice-read-wide Inv-loop μ-loop
-shared-slice-read-wide c = omega arith
-
-wide-requires : tie.Need-wide-requires Inv-loop μ-loop
-wide-requires c κs = tt
-
 add-length : tie.Need-add-length Inv-loop μ-loop
 add-length c = omega (arith, c .before .shared-slice-known2 .given (c .before .before .before .loop .i - 1), total-drop-le (c .before .before .before .before .before .args .counts .now) (c .before .before .before .loop .i))
 
 ways-out-of-requires : tie.Need-ways-out-of-requires Inv-loop μ-loop
 ways-out-of-requires c κs = short (c .before .before .before .loop .inv) (c .before .before .before .before .before .pre) (c .before .before .loop-test .taken) (c .wide .ensures)
 
-enum-known-ways : tie.Need-enum-known-ways Inv-loop μ-loop
-enum-known-ways c = search needs
-
 returns : tie.Need-returns Inv-loop μ-loop
 returns c = factor-stop (c .before .before .before .before .before .loop .inv) (c .before .before .before .before .before .before .before .pre) (c .before .before .before .before .loop-test .taken) (c .before .before .wide .ensures) (c .before .ways-out-of .ensures) (c .match .keys2)
-
-times-requires : tie.Need-times-requires Inv-loop μ-loop
-times-requires c κs = tt
-
-enum-known-more : tie.Need-enum-known-more Inv-loop μ-loop
-enum-known-more c = search needs
 
 returns-2 : tie.Need-returns-2 Inv-loop μ-loop
 returns-2 c =
     product-stop (c .before .before .before .before .before .before .before .before .before .loop .inv) (c .before .before .before .before .before .before .before .before .before .before .before .pre) (c .before .before .before .before .before .before .before .before .loop-test .taken) (c .before .before .before .before .before .before .wide .ensures) (c .before .before .before .before .before .ways-out-of .ensures) (c .before .before .before .ways .given .1) (c .before .times .ensures) (c .match2 .keys2)
 
-loop-less : tie.Need-loop-less Inv-loop μ-loop
-loop-less c = omega arith
-
 loop-again : tie.Need-loop-again Inv-loop μ-loop
 loop-again c =
     turn (c .before .before .before .before .before .before .before .before .before .before .before .loop .inv) (c .before .before .before .before .before .before .before .before .before .before .before .before .before .pre) (c .before .before .before .before .before .before .before .before .before .before .loop-test .taken) (c .before .before .before .before .before .before .before .before .wide .ensures) (c .before .before .before .before .before .before .before .ways-out-of .ensures) (c .before .before .before .before .before .ways .given .1) (c .before .before .before .times .ensures) (c .before .more .given .1)
-
-returns-3 : tie.Need-returns-3 Inv-loop μ-loop
-returns-3 c = done (c .before .loop .inv) (c .loop-test .left)
 
 pub of-binomials-spec : {M : Type 1} → statement M
 of-binomials-spec =
@@ -131,17 +104,17 @@ of-binomials-spec =
     (tie.spec
     Inv-loop
     μ-loop
-    loop-holds
-    sub-i
-    shared-slice-read-wide
-    wide-requires
+    (λ c. start _)
+    (λ c. omega arith)
+    (λ c. omega arith)
+    (λ c κs. tt)
     add-length
     ways-out-of-requires
-    enum-known-ways
+    (λ c. search needs)
     returns
-    times-requires
-    enum-known-more
+    (λ c κs. tt)
+    (λ c. search needs)
     returns-2
-    loop-less
+    (λ c. omega arith)
     loop-again
-    returns-3)
+    (λ c. done (c .before .loop .inv) (c .loop-test .left)))

@@ -22,26 +22,14 @@ small x y pos h = omega (arith, le-div-iff-mul-le {k = y} (omega arith) .0 h)
 large : (x y : ℕ) → (y ≡ 0 → ⊥) → 18446744073709551615 / y < x → 2 ^ 64 ≤ x * y
 large x y pos h = omega (arith, div-lt-iff-lt-mul {k = y} (omega arith) .0 h)
 
-mul-t5 : tie.Need-mul-t5
-mul-t5 c = record { fits = halves _ _ (c .before .if1 .taken) (c .if2 .taken) }
-
-returns : tie.Need-returns
-returns c = sym (fits-small _ (halves _ _ (c .before .if1 .taken) (c .if2 .taken)))
-
-returns-2 : tie.Need-returns-2
-returns-2 c = sym (ap fits (rw (c .if3 .taken) (mul-zero (c .before .before .args .x))) ∙ fits-small 0 (omega arith))
-
-div-if4 : tie.Need-div-if4
-div-if4 c = search needs
-
-mul-t7 : tie.Need-mul-t7
-mul-t7 c = record { fits = small _ _ (c .before .if3 .left) (c .if4 .taken) }
-
-returns-3 : tie.Need-returns-3
-returns-3 c = sym (fits-small _ (small _ _ (c .before .if3 .left) (c .if4 .taken)))
-
-returns-4 : tie.Need-returns-4
-returns-4 c = sym (fits-large _ (large _ _ (c .before .if3 .left) (c .if4 .left)))
-
 pub times-spec : {M : Type 1} → statement M
-times-spec = tie.close (tie.spec mul-t5 returns returns-2 div-if4 mul-t7 returns-3 returns-4)
+times-spec =
+    tie.close
+    (tie.spec
+    (λ c. record { fits = halves _ _ (c .before .if1 .taken) (c .if2 .taken) })
+    (λ c. sym (fits-small _ (halves _ _ (c .before .if1 .taken) (c .if2 .taken))))
+    (λ c. sym (ap fits (rw (c .if3 .taken) (mul-zero (c .before .before .args .x))) ∙ fits-small 0 (omega arith)))
+    (λ c. search needs)
+    (λ c. record { fits = small _ _ (c .before .if3 .left) (c .if4 .taken) })
+    (λ c. sym (fits-small _ (small _ _ (c .before .if3 .left) (c .if4 .taken))))
+    (λ c. sym (fits-large _ (large _ _ (c .before .if3 .left) (c .if4 .left)))))

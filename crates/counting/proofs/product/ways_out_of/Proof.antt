@@ -8,17 +8,14 @@ use Rattle.counting.proofs.Answers.{fits-small, fits-large}
 use Rattle.counting.proofs.product.ways_out_of.Statement.{statement}
 use Rattle.counting.proofs.product.ways_out_of.Tie as tie
 
-coefficient-fits-requires : tie.Need-coefficient-fits-requires
-coefficient-fits-requires c κs = search needs
-
-returns : tie.Need-returns
-returns c = sym (fits-large _ (ltb-false _ _ (sym (c .before .coefficient-fits .ensures) ∙ not-true _ (c .if1 .taken))))
-
-coefficient-requires : tie.Need-coefficient-requires
-coefficient-requires c κs = (c .before .before .pre, ltb-true _ _ (sym (c .before .coefficient-fits .ensures) ∙ not-false _ (c .if1 .left)))
-
 returns-2 : tie.Need-returns-2
 returns-2 c = ap Exactly (c .coefficient .ensures) ∙ sym (fits-small _ (ltb-true _ _ (sym (c .before .before .coefficient-fits .ensures) ∙ not-false _ (c .before .if1 .left))))
 
 pub ways-out-of-spec : {M : Type 1} → statement M
-ways-out-of-spec = tie.close (tie.spec coefficient-fits-requires returns coefficient-requires returns-2)
+ways-out-of-spec =
+    tie.close
+    (tie.spec
+    (λ c κs. search needs)
+    (λ c. sym (fits-large _ (ltb-false _ _ (sym (c .before .coefficient-fits .ensures) ∙ not-true _ (c .if1 .taken)))))
+    (λ c κs. (c .before .before .pre, ltb-true _ _ (sym (c .before .coefficient-fits .ensures) ∙ not-false _ (c .if1 .left))))
+    returns-2)

@@ -2,7 +2,7 @@
 -- Assumes nothing.
 use mathlib.Core.Path.{_≡_, sym, ap}
 use Prim.Native.Nat.{ℕ, _<_}
-use Rattle.numbers.specs.Sums.{range, sumOver}
+use Rattle.basics.specs.Sums.{range, sumOver}
 use Rattle.numbers.specs.Numbers.{catalanOf, catalansDown}
 use Rattle.numbers.proofs.Past.{beyond}
 use Rattle.numbers.proofs.Catalans.{catalan-large}

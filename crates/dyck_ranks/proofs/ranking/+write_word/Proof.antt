@@ -1,16 +1,17 @@
 -- `dyck_ranks::ranking::write_word` meets its contract: the words of the two parts of the rank, put together. The measure is n.
 -- Assumes nothing.
 use mathlib.Core.Path.{_≡_, sym, ap, subst}
-use Prim.Native.Nat.{ℕ, suc, _+_, _-_, _*_, _<_}
+use Prim.Native.Nat.{ℕ, suc, _+_, _-_, _*_, _≤_, _<_, _^_}
 use native.Mathlib.Nat.{lt-of-le-of-lt}
 use native.Mathlib.Omega.{arith}
 use lib.ListN.{length, length-set}
 use Rattle.numbers.specs.Numbers.{catalanOf}
 use Rattle.numbers.proofs.Laws.{catalan-zero, catalan-mono}
+use Rattle.listings.specs.Bytes.{Bytes}
 use Rattle.listings.specs.Places.{At}
 use Rattle.dyck_words.specs.Listing.{dyckWords}
-use Rattle.dyck_ranks.proofs.RankLaws.{empty-at, Shared, shared, unranked}
-use Rattle.dyck_ranks.proofs.Cutting.{filled, inside-length, filled-length, rest-length, joined, joined-length}
+use Rattle.dyck_ranks.proofs.Ranks.{empty-at, Shared, shared, unranked}
+use Rattle.dyck_words.proofs.Lent.{inside-length, Laid, laid}
 use borrow.Fn.Kinds.{In}
 use borrow.Fn.PlainCycle.{Measures, is, falls, and}
 use Rattle.dyck_ranks.proofs.ranking.write_word.Reads as write-word
@@ -36,137 +37,83 @@ write-word-below t =
 abbrev write-word-calls : ℕ → write-word-lts.Claims
 write-word-calls t = (inside-size-reads.Asked, inside-size-reads.Learnt, shorter-insides-reads.Asked, shorter-insides-reads.Learnt, ways-reads.Asked, ways-reads.Learnt, write-word-below t, write-word.Post)
 
--- the rank in its parts
-fair : (t : ℕ) (c : write-word-lts.After-ways (write-word-calls t) (write-word-at t) write-word.Post) → Shared (c .before .before .before .before .before .args .n - 1) (c .before .before .inside-size .result) (c .before .before .before .before .before .args .rank) (c .before .shorter-insides .result) (c .ways .result)
-fair t c = shared (c .before .before .inside-size .ensures .1) (c .before .before .inside-size .ensures .2) (c .before .shorter-insides .ensures) (c .ways .ensures)
+module _ (t : ℕ) where
+  -- the places: the rank is known in its parts; the inside is written
 
--- the 0 that closes the inside stands within the slice
-closes : (t : ℕ) (c : write-word-lts.After-ways (write-word-calls t) (write-word-at t) write-word.Post) → 2 * c .before .before .inside-size .result + 1 < length (c .before .before .before .before .before .args .object .now)
-closes t c = omega arith
+  abbrev Counted : Type 0
+  Counted = write-word-lts.After-ways (write-word-calls t) (write-word-at t) write-word.Post
 
--- with the inside written the slice is as long as before
-filled-long : (t : ℕ) (c : write-word-lts.After-write-word (write-word-calls t) (write-word-at t) write-word.Post) → length (filled (c .before .before .before .before .before .before .before .args .object .now) (2 * c .before .before .before .before .inside-size .result + 1) (c .write-word .last .1 .1 .0)) ≡ length (c .before .before .before .before .before .before .before .args .object .now)
-filled-long t c = filled-length (c .before .before .before .before .before .before .before .args .object .now) (c .write-word .last .1 .1 .0) (2 * c .before .before .before .before .inside-size .result + 1) (omega arith) (closes t (c .before .before)) (c .write-word .kept .1 .1 .0)
+  abbrev Inside : Type 0
+  Inside = write-word-lts.After-write-word (write-word-calls t) (write-word-at t) write-word.Post
 
-write-word-returns : (t : ℕ) → write-word-lts.Need-returns (write-word-calls t) (write-word-at t) write-word.Post
-write-word-returns t c =
-    let zeroth : c .before .before .args .rank ≡ 0 = omega (arith, ap catalanOf (c .if1 .taken), catalan-zero) in
-    subst (At (dyckWords (c .before .before .args .n)) (c .before .before .args .object .now)) (sym zeroth) (empty-at (c .if1 .taken) (c .before .before .pre .1 .0))
+  abbrev bytes : Counted → Bytes
+  bytes c = c .before .before .before .before .before .args .object .now
 
-write-word-sub-m : (t : ℕ) → write-word-lts.Need-sub-m (write-word-calls t) (write-word-at t) write-word.Post
-write-word-sub-m t c = omega arith
+  abbrev closeAt : Counted → ℕ
+  closeAt c = 2 * c .before .before .inside-size .result + 1
 
-write-word-inside-size-requires : (t : ℕ) → write-word-lts.Need-inside-size-requires (write-word-calls t) (write-word-at t) write-word.Post
-write-word-inside-size-requires t c κs =
-    let whole : suc (c .before .before .args .n - 1) ≡ c .before .before .args .n = omega arith in
-    (rw whole (c .before .before .pre .1 .1 .0), rw whole (c .before .before .pre .1 .1 .1))
+  fair : (c : Counted) → Shared (c .before .before .before .before .before .args .n - 1) (c .before .before .inside-size .result) (c .before .before .before .before .before .args .rank) (c .before .shorter-insides .result) (c .ways .result)
+  fair c = shared (c .before .before .inside-size .ensures .1) (c .before .before .inside-size .ensures .2) (c .before .shorter-insides .ensures) (c .ways .ensures)
 
-write-word-sub-k : (t : ℕ) → write-word-lts.Need-sub-k (write-word-calls t) (write-word-at t) write-word.Post
-write-word-sub-k t c = omega arith
+  -- the 0 that closes the inside stands within the slice
+  closes : (c : Counted) → closeAt c < length (bytes c)
+  closes c = omega arith
 
-write-word-shorter-insides-requires : (t : ℕ) → write-word-lts.Need-shorter-insides-requires (write-word-calls t) (write-word-at t) write-word.Post
-write-word-shorter-insides-requires t c κs =
-    let whole : suc (c .before .before .before .args .n - 1) ≡ c .before .before .before .args .n = omega arith in
-    (omega arith, rw whole (c .before .before .before .pre .1 .1 .0))
+  -- fewer branches have a number of words that fits, too
+  fits : (c : Counted) (j : ℕ) → j ≤ c .before .before .before .before .before .args .n → catalanOf j < 2 ^ 64
+  fits c j h = lt-of-le-of-lt (catalan-mono h) (c .before .before .before .before .before .pre .1 .1 .0)
 
-write-word-sub-left : (t : ℕ) → write-word-lts.Need-sub-left (write-word-calls t) (write-word-at t) write-word.Post
-write-word-sub-left t c = omega arith
+  inside : (c : Inside) → Laid (bytes (c .before .before)) (closeAt (c .before .before)) (c .write-word .last .1 .1 .0)
+  inside c = laid (bytes (c .before .before)) (c .write-word .last .1 .1 .0) (closeAt (c .before .before)) (omega arith) (closes (c .before .before)) (c .write-word .kept .1 .1 .0)
 
-write-word-ways-requires : (t : ℕ) → write-word-lts.Need-ways-requires (write-word-calls t) (write-word-at t) write-word.Post
-write-word-ways-requires t c κs = lt-of-le-of-lt (catalan-mono (omega arith)) (c .before .before .before .before .pre .1 .1 .0)
+  returns : write-word-lts.Need-returns (write-word-calls t) (write-word-at t) write-word.Post
+  returns c =
+      let zeroth : c .before .before .args .rank ≡ 0 = omega (arith, ap catalanOf (c .if1 .taken), catalan-zero) in
+      subst (At (dyckWords (c .before .before .args .n)) (c .before .before .args .object .now)) (sym zeroth) (empty-at (c .if1 .taken) (c .before .before .pre .1 .0))
 
-write-word-div-inside-rank : (t : ℕ) → write-word-lts.Need-div-inside-rank (write-word-calls t) (write-word-at t) write-word.Post
-write-word-div-inside-rank t c = fair t c .rests
+  inside-size-requires : write-word-lts.Need-inside-size-requires (write-word-calls t) (write-word-at t) write-word.Post
+  inside-size-requires c κs =
+      let whole : suc (c .before .before .args .n - 1) ≡ c .before .before .args .n = omega arith in
+      (rw whole (c .before .before .pre .1 .1 .0), rw whole (c .before .before .pre .1 .1 .1))
 
-write-word-rem-rest-rank : (t : ℕ) → write-word-lts.Need-rem-rest-rank (write-word-calls t) (write-word-at t) write-word.Post
-write-word-rem-rest-rank t c = fair t c .rests
+  shorter-insides-requires : write-word-lts.Need-shorter-insides-requires (write-word-calls t) (write-word-at t) write-word.Post
+  shorter-insides-requires c κs = (omega arith, lt-of-le-of-lt (catalan-mono (omega arith)) (c .before .before .before .pre .1 .1 .0))
 
-write-word-mul-close : (t : ℕ) → write-word-lts.Need-mul-close (write-word-calls t) (write-word-at t) write-word.Post
-write-word-mul-close t c = omega arith
+  write-word-requires : write-word-lts.Need-write-word-requires (write-word-calls t) (write-word-at t) write-word.Post
+  write-word-requires c κs = (omega arith, (omega (arith, inside-length (bytes (c .before)) (closeAt (c .before)) (closes (c .before))), (fits (c .before) _ (omega arith), fair (c .before) .inside)))
 
-write-word-add-close : (t : ℕ) → write-word-lts.Need-add-close (write-word-calls t) (write-word-at t) write-word.Post
-write-word-add-close t c = omega arith
+  write-word-requires-2 : write-word-lts.Need-write-word-requires-2 (write-word-calls t) (write-word-at t) write-word.Post
+  write-word-requires-2 c κs = let long = inside (c .before .before .before) .rest-lent in (omega arith, (omega (arith, long), (fits (c .before .before .before .before .before) _ (omega arith), fair (c .before .before .before .before .before) .rest)))
 
-write-word-slice-write-object : (t : ℕ) → write-word-lts.Need-slice-write-object (write-word-calls t) (write-word-at t) write-word.Post
-write-word-slice-write-object t c = omega arith
-
-write-word-slice-write-object-2 : (t : ℕ) → write-word-lts.Need-slice-write-object-2 (write-word-calls t) (write-word-at t) write-word.Post
-write-word-slice-write-object-2 t c = simp length-set (closes t c)
-
-write-word-sub-write-word : (t : ℕ) → write-word-lts.Need-sub-write-word (write-word-calls t) (write-word-at t) write-word.Post
-write-word-sub-write-word t c = omega arith
-
-write-word-part-write-word-start : (t : ℕ) → write-word-lts.Need-part-write-word-start (write-word-calls t) (write-word-at t) write-word.Post
-write-word-part-write-word-start t c = omega arith
-
-write-word-part-write-word-end : (t : ℕ) → write-word-lts.Need-part-write-word-end (write-word-calls t) (write-word-at t) write-word.Post
-write-word-part-write-word-end t c = simp length-set (omega (arith, closes t c))
-
-write-word-write-word-requires : (t : ℕ) → write-word-lts.Need-write-word-requires (write-word-calls t) (write-word-at t) write-word.Post
-write-word-write-word-requires t c κs =
-    let start = c .before .before .before .before .before .before in
-    let close = 2 * c .before .before .before .inside-size .result + 1 in
-    let long = inside-length (start .args .object .now) close (closes t (c .before)) in
-    (omega arith, (omega (arith, long), (lt-of-le-of-lt (catalan-mono (omega arith)) (start .pre .1 .1 .0), fair t (c .before) .inside)))
-
-write-word-add-write-word : (t : ℕ) → write-word-lts.Need-add-write-word (write-word-calls t) (write-word-at t) write-word.Post
-write-word-add-write-word t c = omega arith
-
-write-word-sub-write-word-2 : (t : ℕ) → write-word-lts.Need-sub-write-word-2 (write-word-calls t) (write-word-at t) write-word.Post
-write-word-sub-write-word-2 t c = omega (arith, filled-long t (c .before .before), closes t (c .before .before .before .before))
-
-write-word-part-write-word-start-2 : (t : ℕ) → write-word-lts.Need-part-write-word-start-2 (write-word-calls t) (write-word-at t) write-word.Post
-write-word-part-write-word-start-2 t c = omega (arith, filled-long t (c .before .before), closes t (c .before .before .before .before))
-
-write-word-part-write-word-end-2 : (t : ℕ) → write-word-lts.Need-part-write-word-end-2 (write-word-calls t) (write-word-at t) write-word.Post
-write-word-part-write-word-end-2 t c = omega arith
-
-write-word-write-word-requires-2 : (t : ℕ) → write-word-lts.Need-write-word-requires-2 (write-word-calls t) (write-word-at t) write-word.Post
-write-word-write-word-requires-2 t c κs =
-    let start = c .before .before .before .before .before .before .before .before .before .before in
-    let inner = c .before .before .before .write-word in
-    let close = 2 * c .before .before .before .before .before .before .before .inside-size .result + 1 in
-    let long = rest-length (start .args .object .now) (inner .last .1 .1 .0) close (omega arith) (closes t (c .before .before .before .before .before)) (inner .kept .1 .1 .0) in
-    (omega arith, (omega (arith, long), (lt-of-le-of-lt (catalan-mono (omega arith)) (start .pre .1 .1 .0), fair t (c .before .before .before .before .before) .rest)))
-
-write-word-same-length : (t : ℕ) → write-word-lts.Need-same-length (write-word-calls t) (write-word-at t) write-word.Post
-write-word-same-length t c =
-    let inner = c .before .before .before .before .before .before .write-word in
-    let outer = c .before .before .write-word2 in
-    joined-length (c .before .before .before .before .before .before .before .before .before .before .before .before .before .args .object .now) (inner .last .1 .1 .0) (2 * c .before .before .before .before .before .before .before .before .before .before .inside-size .result + 1) (omega arith) (closes t (c .before .before .before .before .before .before .before .before)) (inner .kept .1 .1 .0) (outer .last .1 .1 .0) (outer .kept .1 .1 .0)
-
-write-word-returns-2 : (t : ℕ) → write-word-lts.Need-returns-2 (write-word-calls t) (write-word-at t) write-word.Post
-write-word-returns-2 t c =
-    let start = c .before .before .before .before .before .before .before .before .before .before .before .before .before in
-    let inner = c .before .before .before .before .before .before .write-word in
-    let outer = c .before .before .write-word2 in
-    let j = c .before .before .before .before .before .before .before .before .before .before .inside-size in
-    unranked (start .args .n) (j .result) (start .args .rank) (c .before .before .before .before .before .before .before .before .before .shorter-insides .result) (c .before .before .before .before .before .before .before .before .ways .result) (c .before .before .before .before .before .before .before .before .before .before .before .if1 .left) (j .ensures .0) (fair t (c .before .before .before .before .before .before .before .before)) (inner .ensures) (outer .ensures)
-    (joined (start .args .object .now) (inner .last .1 .1 .0) (2 * j .result + 1) (omega arith) (closes t (c .before .before .before .before .before .before .before .before)) (inner .kept .1 .1 .0) (outer .last .1 .1 .0))
+  returns-2 : write-word-lts.Need-returns-2 (write-word-calls t) (write-word-at t) write-word.Post
+  returns-2 c =
+      let a = c .before .before .before .before .before .before .before .before in
+      let outer = c .before .before .write-word2 in
+      unranked (a .before .before .before .before .before .args .n) (c .before .before .before .before .before .before .before .before .before .before .before .if1 .left) (a .before .before .inside-size .ensures .0) (fair a) (c .before .before .before .before .before .before .write-word .ensures) (outer .ensures) (inside (c .before .before .before .before .before .before) .whole (outer .last .1 .1 .0))
 
 pub +write-word-spec : {M : Type 1} → statement M
 +write-word-spec = close μ-write-word λ t. write-word-lts.spec (write-word-calls t) (write-word-at t) write-word.Post
-    (write-word-returns t)
-    (write-word-sub-m t)
-    (write-word-inside-size-requires t)
-    (write-word-sub-k t)
-    (write-word-shorter-insides-requires t)
-    (write-word-sub-left t)
-    (write-word-ways-requires t)
-    (write-word-div-inside-rank t)
-    (write-word-rem-rest-rank t)
-    (write-word-mul-close t)
-    (write-word-add-close t)
-    (write-word-slice-write-object t)
-    (write-word-slice-write-object-2 t)
-    (write-word-sub-write-word t)
-    (write-word-part-write-word-start t)
-    (write-word-part-write-word-end t)
-    (write-word-write-word-requires t)
-    (write-word-add-write-word t)
-    (write-word-sub-write-word-2 t)
-    (write-word-part-write-word-start-2 t)
-    (write-word-part-write-word-end-2 t)
-    (write-word-write-word-requires-2 t)
-    (write-word-same-length t)
-    (write-word-returns-2 t)
+    (returns t)
+    (λ c. omega arith)
+    (inside-size-requires t)
+    (λ c. omega arith)
+    (shorter-insides-requires t)
+    (λ c. omega arith)
+    (λ c κs. lt-of-le-of-lt (catalan-mono (omega arith)) (c .before .before .before .before .pre .1 .1 .0))
+    (λ c. fair t c .rests)
+    (λ c. fair t c .rests)
+    (λ c. omega arith)
+    (λ c. omega arith)
+    (λ c. omega arith)
+    (λ c. simp length-set (closes t c))
+    (λ c. omega arith)
+    (λ c. omega arith)
+    (λ c. simp length-set (omega (arith, closes t c)))
+    (write-word-requires t)
+    (λ c. omega arith)
+    (λ c. omega (arith, inside t (c .before .before) .long, closes t (c .before .before .before .before)))
+    (λ c. omega (arith, inside t (c .before .before) .long, closes t (c .before .before .before .before)))
+    (λ c. omega arith)
+    (write-word-requires-2 t)
+    (λ c. inside t (c .before .before .before .before .before .before) .same-long (c .before .before .write-word2 .last .1 .1 .0) (c .before .before .write-word2 .kept .1 .1 .0))
+    (returns-2 t)

@@ -5,7 +5,7 @@ use Prim.Native.Nat.{_+_, _-_, _≤_, _<_}
 use native.Mathlib.Numerals.{add-one}
 use native.Mathlib.Omega.{arith}
 use Rattle.dyck_ranks.specs.inner.Shorter.{shorter}
-use Rattle.dyck_ranks.proofs.RankLaws.{shorter-zero, shorter-suc, goes-on}
+use Rattle.dyck_ranks.proofs.Ranks.{shorter-zero, shorter-suc, goes-on}
 use Rattle.dyck_ranks.proofs.ranking.inside_size.Statement.{statement}
 use Rattle.dyck_ranks.proofs.ranking.inside_size.Tie as tie
 
@@ -15,33 +15,12 @@ Inv-loop rank n left₀ j₀ left j = (j ≤ n) × (shorter n j + left ≡ rank)
 abbrev μ-loop : tie.MeasureT-loop
 μ-loop rank n left₀ j₀ left j = n - j
 
-loop-holds : tie.Need-loop-holds Inv-loop μ-loop
-loop-holds c = (omega arith, rw shorter-zero (omega arith))
-
 -- a turn ends with a longer inside
 longer : (c : tie.After-with-inside2 Inv-loop μ-loop) → c .before .before .before .loop .j < c .before .before .before .before .args .n
 longer c = goes-on (c .before .before .before .before .args .n) (c .before .before .before .loop .j) (c .before .before .before .loop .left) (c .before .before .before .loop .inv .0) (c .before .before .before .loop .inv .1) (omega arith) (c .before .before .before .before .pre .1)
 
-with-inside-requires : tie.Need-with-inside-requires Inv-loop μ-loop
-with-inside-requires c κs = omega arith
-
-with-inside-requires-2 : tie.Need-with-inside-requires-2 Inv-loop μ-loop
-with-inside-requires-2 c κs = omega arith
-
-sub-left : tie.Need-sub-left Inv-loop μ-loop
-sub-left c = omega arith
-
-add-j : tie.Need-add-j Inv-loop μ-loop
-add-j c = omega (arith, longer c)
-
-loop-less : tie.Need-loop-less Inv-loop μ-loop
-loop-less c = omega (arith, longer c)
-
 loop-again : tie.Need-loop-again Inv-loop μ-loop
 loop-again c = (omega (arith, longer c), rw add-one (omega (arith, shorter-suc (c .before .before .before .before .args .n) (c .before .before .before .loop .j))))
-
-returns : tie.Need-returns Inv-loop μ-loop
-returns c = (omega arith, omega arith, omega (arith, shorter-suc (c .before .before .before .args .n) (c .before .before .loop .j)))
 
 pub inside-size-spec : {M : Type 1} → statement M
 inside-size-spec =
@@ -49,11 +28,11 @@ inside-size-spec =
     (tie.spec
     Inv-loop
     μ-loop
-    loop-holds
-    with-inside-requires
-    with-inside-requires-2
-    sub-left
-    add-j
-    loop-less
+    (λ c. (omega arith, rw shorter-zero (omega arith)))
+    (λ c κs. omega arith)
+    (λ c κs. omega arith)
+    (λ c. omega arith)
+    (λ c. omega (arith, longer c))
+    (λ c. omega (arith, longer c))
     loop-again
-    returns)
+    (λ c. (omega arith, omega arith, omega (arith, shorter-suc (c .before .before .before .args .n) (c .before .before .loop .j)))))

@@ -5,7 +5,7 @@ use Prim.Native.Nat.{suc, _-_, _≤_}
 use native.Mathlib.Numerals.{add-one}
 use native.Mathlib.Omega.{arith}
 use Rattle.dyck_ranks.specs.inner.Shorter.{shorter}
-use Rattle.dyck_ranks.proofs.RankLaws.{shorter-zero, shorter-suc, shorter-le}
+use Rattle.dyck_ranks.proofs.Ranks.{shorter-zero, shorter-suc, shorter-le}
 use Rattle.dyck_ranks.proofs.ranking.shorter_insides.Statement.{statement}
 use Rattle.dyck_ranks.proofs.ranking.shorter_insides.Tie as tie
 
@@ -15,26 +15,8 @@ Inv-loop n j sum₀ i₀ sum i = (i ≤ j) × (sum ≡ shorter n i)
 abbrev μ-loop : tie.MeasureT-loop
 μ-loop n j sum₀ i₀ sum i = j - i
 
-loop-holds : tie.Need-loop-holds Inv-loop μ-loop
-loop-holds c = (omega arith, sym (shorter-zero (c .args .n)))
-
-with-inside-requires : tie.Need-with-inside-requires Inv-loop μ-loop
-with-inside-requires c κs = omega arith
-
 add-sum : tie.Need-add-sum Inv-loop μ-loop
 add-sum c = omega (arith, shorter-suc (c .before .before .before .args .n) (c .before .before .loop .i), shorter-le (c .before .before .before .args .n) (suc (c .before .before .loop .i)) (omega arith))
-
-add-i : tie.Need-add-i Inv-loop μ-loop
-add-i c = omega arith
-
-loop-less : tie.Need-loop-less Inv-loop μ-loop
-loop-less c = omega arith
-
-loop-again : tie.Need-loop-again Inv-loop μ-loop
-loop-again c = (omega arith, rw add-one (omega (arith, shorter-suc (c .before .before .before .args .n) (c .before .before .loop .i))))
-
-returns : tie.Need-returns Inv-loop μ-loop
-returns c = let e : c .before .loop .i ≡ c .before .before .args .j = omega arith in rw e at (c .before .loop .inv .1)
 
 pub shorter-insides-spec : {M : Type 1} → statement M
 shorter-insides-spec =
@@ -42,10 +24,10 @@ shorter-insides-spec =
     (tie.spec
     Inv-loop
     μ-loop
-    loop-holds
-    with-inside-requires
+    (λ c. (omega arith, sym (shorter-zero (c .args .n))))
+    (λ c κs. omega arith)
     add-sum
-    add-i
-    loop-less
-    loop-again
-    returns)
+    (λ c. omega arith)
+    (λ c. omega arith)
+    (λ c. (omega arith, rw add-one (omega (arith, shorter-suc (c .before .before .before .args .n) (c .before .before .loop .i)))))
+    (λ c. let e : c .before .loop .i ≡ c .before .before .args .j = omega arith in rw e at (c .before .loop .inv .1)))

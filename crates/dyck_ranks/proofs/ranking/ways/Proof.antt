@@ -6,11 +6,5 @@ use Rattle.counting.proofs.Answers.{if-small}
 use Rattle.dyck_ranks.proofs.ranking.ways.Statement.{statement}
 use Rattle.dyck_ranks.proofs.ranking.ways.Tie as tie
 
-catalan-that-fits-requires : tie.Need-catalan-that-fits-requires
-catalan-that-fits-requires c κs = search needs
-
-returns : tie.Need-returns
-returns c = c .catalan-that-fits .ensures ∙ if-small (c .before .pre)
-
 pub ways-spec : {M : Type 1} → statement M
-ways-spec = tie.close (tie.spec catalan-that-fits-requires returns)
+ways-spec = tie.close (tie.spec (λ c κs. search needs) (λ c. c .catalan-that-fits .ensures ∙ if-small (c .before .pre)))

@@ -7,21 +7,16 @@ use borrow.Author.Needs.{needs}
 use Rattle.dyck_ranks.proofs.ranking.with_inside.Statement.{statement}
 use Rattle.dyck_ranks.proofs.ranking.with_inside.Tie as tie
 
-ways-requires : tie.Need-ways-requires
-ways-requires c κs = let p = c .pre in lt-of-le-of-lt (catalan-mono (omega arith)) (p .1)
-
-sub-ways : tie.Need-sub-ways
-sub-ways c = search needs
-
-ways-requires-2 : tie.Need-ways-requires-2
-ways-requires-2 c κs = let p = c .before .pre in lt-of-le-of-lt (catalan-mono (omega arith)) (p .1)
-
 mul-result : tie.Need-mul-result
 mul-result c = let p = c .before .before .pre in
     record { fits = rw (c .before .ways .ensures, c .ways2 .ensures) (lt-of-le-of-lt (product-le (c .before .before .args .n) (c .before .before .args .j) (p .0)) (p .1)) }
 
-returns : tie.Need-returns
-returns c = rw (c .before .ways .ensures, c .ways2 .ensures)
-
 pub with-inside-spec : {M : Type 1} → statement M
-with-inside-spec = tie.close (tie.spec ways-requires sub-ways ways-requires-2 mul-result returns)
+with-inside-spec =
+    tie.close
+    (tie.spec
+    (λ c κs. let p = c .pre in lt-of-le-of-lt (catalan-mono (omega arith)) (p .1))
+    (λ c. search needs)
+    (λ c κs. let p = c .before .pre in lt-of-le-of-lt (catalan-mono (omega arith)) (p .1))
+    mul-result
+    (λ c. rw (c .before .ways .ensures, c .ways2 .ensures)))

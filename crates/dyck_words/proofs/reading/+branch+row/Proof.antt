@@ -7,7 +7,7 @@ use mathlib.Core.Path.{subst}
 use lib.ListN.{length, List·getD-eq-default}
 use Rattle.dyck_words.specs.declared.reading.Read.the-variants.{To}
 use Rattle.dyck_words.specs.inner.Reading.{RowRead, BranchRead}
-use Rattle.dyck_words.proofs.Passing.{row-stays, row-goes, branch-fails, branch-open, branch-stuck, branch-closes}
+use Rattle.dyck_words.proofs.Testing.{row-stays, row-goes, branch-fails, branch-open, branch-stuck, branch-closes}
 use borrow.Fn.Kinds.{In}
 use borrow.Fn.PlainCycle.{Measures, is, falls, and}
 use Rattle.dyck_words.proofs.reading.branch.Reads as branch
@@ -43,85 +43,21 @@ row-calls t = (branch-below t, branch.Post, row-below t, row.Post)
 abbrev branch-calls : ℕ → branch-lts.Claims
 branch-calls t = (row-below t, row.Post)
 
--- how far the row of a branch came
-row-read :
-    (t : ℕ) (c : branch-lts.After-end (branch-calls t) (branch-at t) branch.Post) →
-    RowRead (c .before .before .before .before .args .object .now) (c .before .before .before .before .args .at + 1) (To (c .end .given .0 .0))
+-- in a branch, how far its row came
+row-read : (t : ℕ) (c : branch-lts.After-end (branch-calls t) (branch-at t) branch.Post) → RowRead (c .before .before .before .before .args .object .now) (c .before .before .before .before .args .at + 1) (To (c .end .given .0 .0))
 row-read t c = subst (RowRead (c .before .before .before .before .args .object .now) (c .before .before .before .before .args .at + 1)) (c .end .given .1) (c .before .before .row .ensures)
 
-branch-add-row :
-    (t : ℕ) → branch-lts.Need-add-row (branch-calls t) (branch-at t) branch.Post
-branch-add-row t c = omega arith
-
-branch-row-requires :
-    (t : ℕ) → branch-lts.Need-row-requires (branch-calls t) (branch-at t) branch.Post
-branch-row-requires t c κs = (omega arith, omega arith)
-
-branch-enum-known-end :
-    (t : ℕ) → branch-lts.Need-enum-known-end (branch-calls t) (branch-at t) branch.Post
-branch-enum-known-end t c = search needs
-
-branch-enum-told :
-    (t : ℕ) → branch-lts.Need-enum-told (branch-calls t) (branch-at t) branch.Post
-branch-enum-told t c = search needs
-
-branch-returns :
-    (t : ℕ) → branch-lts.Need-returns (branch-calls t) (branch-at t) branch.Post
-branch-returns t c = branch-fails (c .before .before .before .before .args .object .now) (c .before .before .before .before .args .at) (c .before .before .before .before .pre .1 .0) (c .before .before .before .before .pre .1 .1)
-    (subst (RowRead (c .before .before .before .before .args .object .now) (c .before .before .before .before .args .at + 1)) (c .enum-told .given .1) (c .before .before .row .ensures))
-
-branch-returns-2 :
-    (t : ℕ) → branch-lts.Need-returns-2 (branch-calls t) (branch-at t) branch.Post
-branch-returns-2 t c = branch-open (c .before .before .before .before .before .before .args .object .now) (c .before .before .before .before .before .before .args .at) (c .before .before .before .before .before .before .pre .1 .0) (c .before .before .before .before .before .before .pre .1 .1) (row-read t (c .before .before) .0) (omega arith)
-
-branch-shared-slice-read-if2 : (t : ℕ) → branch-lts.Need-shared-slice-read-if2 (branch-calls t) (branch-at t) branch.Post
-branch-shared-slice-read-if2 t c = omega arith
-
-branch-returns-3 :
-    (t : ℕ) → branch-lts.Need-returns-3 (branch-calls t) (branch-at t) branch.Post
-branch-returns-3 t c = branch-stuck (c .before .before .before .before .before .before .before .before .args .object .now) (c .before .before .before .before .before .before .before .before .args .at) (c .before .before .before .before .before .before .before .before .pre .1 .0) (c .before .before .before .before .before .before .before .before .pre .1 .1) (row-read t (c .before .before .before .before)) (omega arith) (c .if2 .taken)
-
-branch-add-t5 : (t : ℕ) → branch-lts.Need-add-t5 (branch-calls t) (branch-at t) branch.Post
-branch-add-t5 t c = omega arith
-
-branch-returns-4 :
-    (t : ℕ) → branch-lts.Need-returns-4 (branch-calls t) (branch-at t) branch.Post
-branch-returns-4 t c = branch-closes (c .before .before .before .before .before .before .before .before .args .object .now) (c .before .before .before .before .before .before .before .before .args .at) (c .before .before .before .before .before .before .before .before .pre .1 .0) (c .before .before .before .before .before .before .before .before .pre .1 .1) (row-read t (c .before .before .before .before) .0) (omega arith) (c .if2 .left)
-
--- how far the branch of a row came
-branch-read :
-    (t : ℕ) (c : row-lts.After-next (row-calls t) (row-at t) row.Post) →
-    BranchRead (c .before .before .before .before .before .before .before .args .object .now) (c .before .before .before .before .before .before .before .args .at) (To (c .next .given .0 .0))
+-- in a row, how far its branch came
+branch-read : (t : ℕ) (c : row-lts.After-next (row-calls t) (row-at t) row.Post) → BranchRead (c .before .before .before .before .before .before .before .args .object .now) (c .before .before .before .before .before .before .before .args .at) (To (c .next .given .0 .0))
 branch-read t c = subst (BranchRead (c .before .before .before .before .before .before .before .args .object .now) (c .before .before .before .before .before .before .before .args .at)) (c .next .given .1) (c .before .before .branch .ensures)
 
-row-returns :
-    (t : ℕ) →
-    row-lts.Need-returns (row-calls t) (row-at t) row.Post
-row-returns t c = row-stays (c .before .before .pre .1) (λ e. omega (arith, List·getD-eq-default (c .before .before .args .object .now) 0 {n = c .before .before .args .at} (omega arith)))
-
-row-shared-slice-read-if2 : (t : ℕ) → row-lts.Need-shared-slice-read-if2 (row-calls t) (row-at t) row.Post
-row-shared-slice-read-if2 t c = omega arith
-
-row-returns-2 : (t : ℕ) → row-lts.Need-returns-2 (row-calls t) (row-at t) row.Post
-row-returns-2 t c = row-stays (c .before .before .before .before .pre .1) (c .if2 .taken)
-
-row-branch-requires : (t : ℕ) → row-lts.Need-branch-requires (row-calls t) (row-at t) row.Post
-row-branch-requires t c κs = (omega arith, (omega arith, c .if2 .left))
-
-row-enum-known-next : (t : ℕ) → row-lts.Need-enum-known-next (row-calls t) (row-at t) row.Post
-row-enum-known-next t c = search needs
-
-row-enum-told : (t : ℕ) → row-lts.Need-enum-told (row-calls t) (row-at t) row.Post
-row-enum-told t c = search needs
+branch-returns : (t : ℕ) → branch-lts.Need-returns (branch-calls t) (branch-at t) branch.Post
+branch-returns t c =
+    let start = c .before .before .before .before in
+    branch-fails (start .args .object .now) (start .args .at) (start .pre .1) (subst (RowRead (start .args .object .now) (start .args .at + 1)) (c .enum-told .given .1) (c .before .before .row .ensures))
 
 row-returns-3 : (t : ℕ) → row-lts.Need-returns-3 (row-calls t) (row-at t) row.Post
-row-returns-3 t c = subst (BranchRead (c .before .before .before .before .before .before .before .args .object .now) (c .before .before .before .before .before .before .before .args .at)) (c .enum-told .given .1) (c .before .before .branch .ensures)
-
-row-row-requires : (t : ℕ) → row-lts.Need-row-requires (row-calls t) (row-at t) row.Post
-row-row-requires t c κs = let b = branch-read t (c .before) in (omega (arith, b .0 .onward, b .0 .inside, b .1), b .0 .inside)
-
-row-returns-4 : (t : ℕ) → row-lts.Need-returns-4 (row-calls t) (row-at t) row.Post
-row-returns-4 t c = row-goes (branch-read t (c .before .before) .0) (c .row .result) (c .row .ensures)
+row-returns-3 t c = let start = c .before .before .before .before .before .before .before in subst (BranchRead (start .args .object .now) (start .args .at)) (c .enum-told .given .1) (c .before .before .branch .ensures)
 
 pub +branch+row-spec : {M : Type 1} → statement M
 +branch+row-spec =
@@ -129,23 +65,23 @@ pub +branch+row-spec : {M : Type 1} → statement M
     μ-branch
     μ-row
     (λ t. branch-lts.spec (branch-calls t) (branch-at t) branch.Post
-    (branch-add-row t)
-    (branch-row-requires t)
-    (branch-enum-known-end t)
-    (branch-enum-told t)
+    (λ c. omega arith)
+    (λ c κs. (omega arith, omega arith))
+    (λ c. search needs)
+    (λ c. search needs)
     (branch-returns t)
-    (branch-returns-2 t)
-    (branch-shared-slice-read-if2 t)
-    (branch-returns-3 t)
-    (branch-add-t5 t)
-    (branch-returns-4 t))
+    (λ c. let start = c .before .before .before .before .before .before in branch-open (start .args .object .now) (start .args .at) (start .pre .1) (row-read t (c .before .before) .0) (omega arith))
+    (λ c. omega arith)
+    (λ c. let start = c .before .before .before .before .before .before .before .before in branch-stuck (start .args .object .now) (start .args .at) (start .pre .1) (row-read t (c .before .before .before .before)) (omega arith) (c .if2 .taken))
+    (λ c. omega arith)
+    (λ c. let start = c .before .before .before .before .before .before .before .before in branch-closes (start .args .object .now) (start .args .at) (start .pre .1) (row-read t (c .before .before .before .before) .0) (omega arith) (c .if2 .left)))
     λ t. row-lts.spec (row-calls t) (row-at t) row.Post
-    (row-returns t)
-    (row-shared-slice-read-if2 t)
-    (row-returns-2 t)
-    (row-branch-requires t)
-    (row-enum-known-next t)
-    (row-enum-told t)
+    (λ c. let start = c .before .before in row-stays (start .pre .1) (λ e. omega (arith, List·getD-eq-default (start .args .object .now) 0 {n = start .args .at} (omega arith))))
+    (λ c. omega arith)
+    (λ c. row-stays (c .before .before .before .before .pre .1) (c .if2 .taken))
+    (λ c κs. (omega arith, (omega arith, c .if2 .left)))
+    (λ c. search needs)
+    (λ c. search needs)
     (row-returns-3 t)
-    (row-row-requires t)
-    (row-returns-4 t)
+    (λ c κs. let b = branch-read t (c .before) in (omega (arith, b .0 .onward, b .0 .inside, b .1), b .0 .inside))
+    (λ c. row-goes (branch-read t (c .before .before) .0) (c .row .result) (c .row .ensures))

@@ -5,15 +5,6 @@ use borrow.Author.Needs.{needs}
 use Rattle.families.proofs.codes.stepped.Statement.{statement}
 use Rattle.families.proofs.codes.stepped.Tie as tie
 
-enum-told : tie.Need-enum-told
-enum-told c = search needs
-
-enum-told-2 : tie.Need-enum-told-2
-enum-told-2 c = search needs
-
-enum-known-s : tie.Need-enum-known-s
-enum-known-s c = search needs
-
 returns : tie.Need-returns
 unfolding codeOf
 returns c = search needs
@@ -27,4 +18,4 @@ unfolding codeOf
 returns-3 c = search needs
 
 pub stepped-spec : {M : Type 1} → statement M
-stepped-spec = tie.close (tie.spec enum-told enum-told-2 enum-known-s returns returns-2 returns-3)
+stepped-spec = tie.close (tie.spec (λ c. search needs) (λ c. search needs) (λ c. search needs) returns returns-2 returns-3)

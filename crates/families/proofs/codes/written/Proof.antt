@@ -5,12 +5,6 @@ use borrow.Author.Needs.{needs}
 use Rattle.families.proofs.codes.written.Statement.{statement}
 use Rattle.families.proofs.codes.written.Tie as tie
 
-enum-told : tie.Need-enum-told
-enum-told c = search needs
-
-enum-known-w : tie.Need-enum-known-w
-enum-known-w c = search needs
-
 returns : tie.Need-returns
 unfolding codeOf
 returns c = search needs
@@ -20,4 +14,4 @@ unfolding codeOf
 returns-2 c = search needs
 
 pub written-spec : {M : Type 1} → statement M
-written-spec = tie.close (tie.spec enum-told enum-known-w returns returns-2)
+written-spec = tie.close (tie.spec (λ c. search needs) (λ c. search needs) returns returns-2)

@@ -8,18 +8,6 @@ use Rattle.families.proofs.Verdicts.{verdict, opened}
 use Rattle.families.proofs.questions.ask.Statement.{statement}
 use Rattle.families.proofs.questions.ask.Tie as tie
 
-opening-requires : tie.Need-opening-requires
-opening-requires c κs = search needs
-
-enum-known-q : tie.Need-enum-known-q
-enum-known-q c = search needs
-
-enum-told : tie.Need-enum-told
-enum-told c = search needs
-
-closing-requires : tie.Need-closing-requires
-closing-requires c κs = opened _ _ _ (verdict (c .before .before .opening .ensures) (c .enum-told .given .1))
-
 returns : tie.Need-returns
 unfolding refusal
 returns c = c .closing .ensures ∙ sym (after-pass _ _ (verdict (c .before .before .before .opening .ensures) (c .before .enum-told .given .1)))
@@ -32,9 +20,9 @@ pub ask-spec : {M : Type 1} → statement M
 ask-spec =
     tie.close
     (tie.spec
-    opening-requires
-    enum-known-q
-    enum-told
-    closing-requires
+    (λ c κs. search needs)
+    (λ c. search needs)
+    (λ c. search needs)
+    (λ c κs. opened _ _ _ (verdict (c .before .before .opening .ensures) (c .enum-told .given .1)))
     returns
     returns-2)

@@ -8,29 +8,17 @@ use Rattle.families.proofs.Verdicts.{is-no, is-yes}
 use Rattle.families.proofs.questions.asked_of_all.Statement.{statement}
 use Rattle.families.proofs.questions.asked_of_all.Tie as tie
 
-is-kind-requires : tie.Need-is-kind-requires
-is-kind-requires c κs = search needs
-
 returns : tie.Need-returns
 unfolding askedOfAll
 returns c = sym (stop _ _ (is-no (c .before .is-kind .ensures) (c .if1 .taken)))
-
-in-table-requires : tie.Need-in-table-requires
-in-table-requires c κs = is-yes (c .before .is-kind .ensures) (c .if1 .left)
 
 returns-2 : tie.Need-returns-2
 unfolding askedOfAll
 returns-2 c = sym (past _ _ (is-yes (c .before .before .before .is-kind .ensures) (c .before .before .if1 .left)) ∙ stop _ _ (is-no (c .before .in-table .ensures) (c .if2 .taken)))
 
-floor-fits-requires : tie.Need-floor-fits-requires
-floor-fits-requires c κs = search needs
-
 returns-3 : tie.Need-returns-3
 unfolding askedOfAll
 returns-3 c = sym (past _ _ (is-yes (c .before .before .before .before .before .is-kind .ensures) (c .before .before .before .before .if1 .left)) ∙ past _ _ (is-yes (c .before .before .before .in-table .ensures) (c .before .before .if2 .left)) ∙ stop _ _ (is-no (c .before .floor-fits .ensures) (c .if3 .taken)))
-
-lists-fit-requires : tie.Need-lists-fit-requires
-lists-fit-requires c κs = search needs
 
 -- where the lists are asked about, three questions have passed
 
@@ -57,12 +45,12 @@ pub asked-of-all-spec : {M : Type 1} → statement M
 asked-of-all-spec =
     tie.close
     (tie.spec
-    is-kind-requires
+    (λ c κs. search needs)
     returns
-    in-table-requires
+    (λ c κs. is-yes (c .before .is-kind .ensures) (c .if1 .left))
     returns-2
-    floor-fits-requires
+    (λ c κs. search needs)
     returns-3
-    lists-fit-requires
+    (λ c κs. search needs)
     returns-4
     returns-5)

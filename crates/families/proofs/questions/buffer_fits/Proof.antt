@@ -7,23 +7,11 @@ use Rattle.families.proofs.Verdicts.{is-no, is-yes}
 use Rattle.families.proofs.questions.buffer_fits.Statement.{statement}
 use Rattle.families.proofs.questions.buffer_fits.Tie as tie
 
-has-buffer-requires : tie.Need-has-buffer-requires
-has-buffer-requires c κs = search needs
-
-returns : tie.Need-returns
-returns c = sym (not-put _ 6 _ (is-no (c .before .has-buffer .ensures .1) (c .if1 .taken)))
-
-object-length-requires : tie.Need-object-length-requires
-object-length-requires c κs = search needs
-
-returns-2 : tie.Need-returns-2
-returns-2 c = rw (c .object-length .ensures) (sym (is-put _ 6 _ (is-yes (c .before .before .has-buffer .ensures .1) (c .before .if1 .left))))
-
 pub buffer-fits-spec : {M : Type 1} → statement M
 buffer-fits-spec =
     tie.close
     (tie.spec
-    has-buffer-requires
-    returns
-    object-length-requires
-    returns-2)
+    (λ c κs. search needs)
+    (λ c. sym (not-put _ 6 _ (is-no (c .before .has-buffer .ensures .1) (c .if1 .taken))))
+    (λ c κs. search needs)
+    (λ c. rw (c .object-length .ensures) (sym (is-put _ 6 _ (is-yes (c .before .before .has-buffer .ensures .1) (c .before .if1 .left))))))

@@ -8,15 +8,9 @@ use Rattle.families.proofs.Verdicts.{is-no, is-yes}
 use Rattle.families.proofs.questions.buffer_serves.Statement.{statement}
 use Rattle.families.proofs.questions.buffer_serves.Tie as tie
 
-buffer-fits-requires : tie.Need-buffer-fits-requires
-buffer-fits-requires c κs = search needs
-
 returns : tie.Need-returns
 unfolding put
 returns c = sym (stop _ _ (is-no (c .before .buffer-fits .ensures) (c .if1 .taken)))
-
-holds-requires : tie.Need-holds-requires
-holds-requires c κs = search needs
 
 returns-2 : tie.Need-returns-2
 unfolding put
@@ -30,8 +24,8 @@ pub buffer-serves-spec : {M : Type 1} → statement M
 buffer-serves-spec =
     tie.close
     (tie.spec
-    buffer-fits-requires
+    (λ c κs. search needs)
     returns
-    holds-requires
+    (λ c κs. search needs)
     returns-2
     returns-3)

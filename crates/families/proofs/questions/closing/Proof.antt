@@ -8,24 +8,6 @@ use Rattle.families.proofs.Verdicts.{size-told, too-large, below, beyon
 use Rattle.families.proofs.questions.closing.Statement.{statement}
 use Rattle.families.proofs.questions.closing.Tie as tie
 
-number-fits-requires : tie.Need-number-fits-requires
-number-fits-requires c κs = search needs
-
-buffer-serves-requires : tie.Need-buffer-serves-requires
-buffer-serves-requires c κs = search needs
-
-enum-told : tie.Need-enum-told
-enum-told c = search needs
-
-enum-told-2 : tie.Need-enum-told-2
-enum-told-2 c = search needs
-
-enum-told-3 : tie.Need-enum-told-3
-enum-told-3 c = search needs
-
-or-beyond-requires : tie.Need-or-beyond-requires
-or-beyond-requires c κs = search needs
-
 returns : tie.Need-returns
 unfolding closingFor put
 returns c = sym (stop _ _ (too-large _ _ (size-told (c .before .before .before .number-fits .ensures) (c .enum-told .given .1))))
@@ -46,12 +28,12 @@ pub closing-spec : {M : Type 1} → statement M
 closing-spec =
     tie.close
     (tie.spec
-    number-fits-requires
-    buffer-serves-requires
-    enum-told
-    enum-told-2
-    enum-told-3
-    or-beyond-requires
+    (λ c κs. search needs)
+    (λ c κs. search needs)
+    (λ c. search needs)
+    (λ c. search needs)
+    (λ c. search needs)
+    (λ c κs. search needs)
     returns
     returns-2
     returns-3)

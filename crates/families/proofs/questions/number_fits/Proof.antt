@@ -6,7 +6,7 @@ use mathlib.Core.List.{[], _∷_}
 use types.Run.{OneOf, miss}
 use denote.Enum.Declared.{tagOf}
 use borrow.Author.Needs.{needs}
-use Rattle.listings.specs.Calls.{COUNT, FIRST, LAST, NEXT, PREVIOUS, RANK, UNRANK, orElse, firstNo}
+use Rattle.listings.specs.Calls.{COUNT, FIRST, LAST, NEXT, PREVIOUS, RANK, UNRANK, firstNo}
 use Rattle.listings.specs.Calls.{Call as CallOf}
 use Rattle.families.specs.Questions.{asked, isIn, put, rankGiven, rankRefusal}
 use Rattle.families.specs.Families.{always}
@@ -42,28 +42,13 @@ no-number (UNRANK r) e = absurd (true≢false e)
 
 -- and then question 5 is left of the two
 five-alone : (c : CallOf) (a b : Bool) → isIn 5 (asked c) ≡ true → isIn 8 (asked c) ≡ false → firstNo (put c 5 a ∷ put c 8 b ∷ []) ≡ firstNo (always 5 a ∷ [])
-unfolding firstNo orElse put
+unfolding firstNo put
 five-alone c a b e h = rw (e, h)
-
-says-a-number-requires : tie.Need-says-a-number-requires
-says-a-number-requires c κs = search needs
 
 returns : tie.Need-returns
 returns c =
     let none-said = is-no (c .before .says-a-number .ensures) (c .if1 .taken) in
     sym (past _ _ (not-put _ 5 _ none-said) ∙ past _ _ (not-put _ 8 _ (no-number _ none-said)) ∙ none-left)
-
-rank-given-requires : tie.Need-rank-given-requires
-rank-given-requires c κs = search needs
-
-rank-size-requires : tie.Need-rank-size-requires
-rank-size-requires c κs = search needs
-
-enum-told : tie.Need-enum-told
-enum-told c = search needs
-
-fits-requires : tie.Need-fits-requires
-fits-requires c κs = search needs
 
 returns-2 : tie.Need-returns-2
 unfolding rankRefusal
@@ -81,11 +66,11 @@ pub number-fits-spec : {M : Type 1} → statement M
 number-fits-spec =
     tie.close
     (tie.spec
-    says-a-number-requires
+    (λ c κs. search needs)
     returns
-    rank-given-requires
-    rank-size-requires
-    enum-told
-    fits-requires
+    (λ c κs. search needs)
+    (λ c κs. search needs)
+    (λ c. search needs)
+    (λ c κs. search needs)
     returns-2
     returns-3)

@@ -9,18 +9,6 @@ use Rattle.families.proofs.FamilyFacts.{allowed-asked}
 use Rattle.families.proofs.questions.opening.Statement.{statement}
 use Rattle.families.proofs.questions.opening.Tie as tie
 
-asked-of-all-requires : tie.Need-asked-of-all-requires
-asked-of-all-requires c κs = search needs
-
-enum-known-q : tie.Need-enum-known-q
-enum-known-q c = search needs
-
-enum-told : tie.Need-enum-told
-enum-told c = search needs
-
-some-object-requires : tie.Need-some-object-requires
-some-object-requires c κs = allowed-asked _ _ (verdict (c .before .before .asked-of-all .ensures) (c .enum-told .given .1))
-
 returns : tie.Need-returns
 unfolding opening put
 returns c = sym (after-pass _ _ (verdict (c .before .before .before .before .asked-of-all .ensures) (c .before .before .enum-told .given .1)) ∙ stop _ _ (is-no (c .before .some-object .ensures) (c .if1 .taken)))
@@ -37,10 +25,10 @@ pub opening-spec : {M : Type 1} → statement M
 opening-spec =
     tie.close
     (tie.spec
-    asked-of-all-requires
-    enum-known-q
-    enum-told
-    some-object-requires
+    (λ c κs. search needs)
+    (λ c. search needs)
+    (λ c. search needs)
+    (λ c κs. allowed-asked _ _ (verdict (c .before .before .asked-of-all .ensures) (c .enum-told .given .1)))
     returns
     returns-2
     returns-3)

@@ -4,31 +4,22 @@ use mathlib.Core.Path.{sym}
 use mathlib.Core.Bool.{false}
 use mathlib.Core.List.{[], _∷_}
 use borrow.Author.Needs.{needs}
-use Rattle.listings.specs.Calls.{orElse, firstNo}
+use Rattle.listings.specs.Calls.{firstNo}
 use Rattle.families.specs.Families.{always}
 use Rattle.families.proofs.QuestionLaws.{after-pass, after-no}
 use Rattle.families.proofs.Verdicts.{verdict}
 use Rattle.families.proofs.questions.or_beyond.Statement.{statement}
 use Rattle.families.proofs.questions.or_beyond.Tie as tie
 
-enum-known-v : tie.Need-enum-known-v
-enum-known-v c = search needs
-
-enum-told : tie.Need-enum-told
-enum-told c = search needs
-
 returns : tie.Need-returns
-unfolding firstNo orElse
+unfolding firstNo
 returns c = λ qs e. sym (after-pass qs (always 8 false ∷ []) (verdict e (c .enum-told .given .1)))
-
-returns-2 : tie.Need-returns-2
-returns-2 c = λ qs e. sym (after-no qs (always 8 false ∷ []) (verdict e (c .before .v .given .1)))
 
 pub or-beyond-spec : {M : Type 1} → statement M
 or-beyond-spec =
     tie.close
     (tie.spec
-    enum-known-v
-    enum-told
+    (λ c. search needs)
+    (λ c. search needs)
     returns
-    returns-2)
+    (λ c. λ qs e. sym (after-no qs (always 8 false ∷ []) (verdict e (c .before .v .given .1)))))

@@ -24,12 +24,6 @@ no-rank Call.Previous keys = refl
 no-rank Call.Rank keys = refl
 no-rank (Call.Unrank r) keys = absurd (miss (0 ∷ 1 ∷ 2 ∷ 3 ∷ 4 ∷ 5 ∷ []) 6 tt keys)
 
-enum-known-c : tie.Need-enum-known-c
-enum-known-c c = search needs
-
-returns : tie.Need-returns
-returns c = sym (no-rank (c .before .args .c) (c .match .keys2))
-
 returns-2 : tie.Need-returns-2
 unfolding rankGiven
 returns-2 c = rw (c .before .c .given .1)
@@ -38,6 +32,6 @@ pub rank-given-spec : {M : Type 1} → statement M
 rank-given-spec =
     tie.close
     (tie.spec
-    enum-known-c
-    returns
+    (λ c. search needs)
+    (λ c. sym (no-rank (c .before .args .c) (c .match .keys2)))
     returns-2)

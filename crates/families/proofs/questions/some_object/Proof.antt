@@ -8,15 +8,6 @@ use Rattle.families.proofs.FamilyFacts.{has-object}
 use Rattle.families.proofs.questions.some_object.Statement.{statement}
 use Rattle.families.proofs.questions.some_object.Tie as tie
 
-has-buffer-requires : tie.Need-has-buffer-requires
-has-buffer-requires c κs = search needs
-
-returns : tie.Need-returns
-returns c = sym (not-put _ 4 _ (is-no (c .before .has-buffer .ensures .0) (c .if1 .taken)))
-
-has-object-requires : tie.Need-has-object-requires
-has-object-requires c κs = search needs
-
 returns-2 : tie.Need-returns-2
 returns-2 c = c .has-object .ensures ∙ sym (is-put _ 4 _ (is-yes (c .before .before .has-buffer .ensures .0) (c .before .if1 .left)) ∙ has-object _ _ (c .before .before .before .pre))
 
@@ -24,7 +15,7 @@ pub some-object-spec : {M : Type 1} → statement M
 some-object-spec =
     tie.close
     (tie.spec
-    has-buffer-requires
-    returns
-    has-object-requires
+    (λ c κs. search needs)
+    (λ c. sym (not-put _ 4 _ (is-no (c .before .has-buffer .ensures .0) (c .if1 .taken))))
+    (λ c κs. search needs)
     returns-2)

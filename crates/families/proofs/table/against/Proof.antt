@@ -8,12 +8,6 @@ use Rattle.families.proofs.CountAnswers.{not-exact, is-too-large, is-be
 use Rattle.families.proofs.table.against.Statement.{statement}
 use Rattle.families.proofs.table.against.Tie as tie
 
-enum-known-count : tie.Need-enum-known-count
-enum-known-count c = search needs
-
-returns : tie.Need-returns
-returns c = λ v e. sym (is-too-large _ v (not-exact v e (c .match .keys2)))
-
 returns-2 : tie.Need-returns-2
 returns-2 c = λ v e.
     let exact = sym e ∙ c .before .before .count .given .1 in
@@ -28,7 +22,7 @@ pub against-spec : {M : Type 1} → statement M
 against-spec =
     tie.close
     (tie.spec
-    enum-known-count
-    returns
+    (λ c. search needs)
+    (λ c. λ v e. sym (is-too-large _ v (not-exact v e (c .match .keys2))))
     returns-2
     returns-3)

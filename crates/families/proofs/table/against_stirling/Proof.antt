@@ -13,43 +13,19 @@ use Rattle.families.proofs.CountAnswers.{answer-within, is-too-large, i
 use Rattle.families.proofs.table.against_stirling.Statement.{statement}
 use Rattle.families.proofs.table.against_stirling.Tie as tie
 
-stirling-requires : tie.Need-stirling-requires
-stirling-requires c κs = search needs
-
-against-requires : tie.Need-against-requires
-against-requires c κs = search needs
-
-returns : tie.Need-returns
-returns c = c .against .ensures _ (answer-within (c .before .stirling .ensures) (c .before .before .before .pre) refl)
-
-stirling-fits-requires : tie.Need-stirling-fits-requires
-stirling-fits-requires c κs = n-within _ _ _ (c .before .pre)
-
-returns-2 : tie.Need-returns-2
-returns-2 c = sym (is-too-large _ _ (ltb-false _ _ (is-no (c .before .stirling-fits .ensures) (c .if2 .taken))))
-
-shared-out-requires : tie.Need-shared-out-requires
-shared-out-requires c κs = search needs
-
-returns-3 : tie.Need-returns-3
-returns-3 c =
-    let some : 0 < stirlingOf (c .before .before .before .before .before .args .n) (c .before .before .before .before .before .args .k) = ltb-true 0 _ (stirling-some _ _ ∙ sym (c .before .shared-out .ensures) ∙ c .if3 .taken) in
-    sym (is-below _ _ (ltb-true _ _ (is-yes (c .before .before .before .stirling-fits .ensures) (c .before .before .if2 .left))) (omega arith))
-
-returns-4 : tie.Need-returns-4
-returns-4 c =
-    let none : stirlingOf (c .before .before .before .before .before .args .n) (c .before .before .before .before .before .args .k) ≤ 0 = ltb-false 0 _ (stirling-some _ _ ∙ sym (c .before .shared-out .ensures) ∙ c .if3 .left) in
-    sym (is-beyond _ _ (ltb-true _ _ (is-yes (c .before .before .before .stirling-fits .ensures) (c .before .before .if2 .left))) (omega arith))
-
 pub against-stirling-spec : {M : Type 1} → statement M
 against-stirling-spec =
     tie.close
     (tie.spec
-    stirling-requires
-    against-requires
-    returns
-    stirling-fits-requires
-    returns-2
-    shared-out-requires
-    returns-3
-    returns-4)
+    (λ c κs. search needs)
+    (λ c κs. search needs)
+    (λ c. c .against .ensures _ (answer-within (c .before .stirling .ensures) (c .before .before .before .pre) refl))
+    (λ c κs. n-within _ _ _ (c .before .pre))
+    (λ c. sym (is-too-large _ _ (ltb-false _ _ (is-no (c .before .stirling-fits .ensures) (c .if2 .taken)))))
+    (λ c κs. search needs)
+    (λ c.
+    let some : 0 < stirlingOf (c .before .before .before .before .before .args .n) (c .before .before .before .before .before .args .k) = ltb-true 0 _ (stirling-some _ _ ∙ sym (c .before .shared-out .ensures) ∙ c .if3 .taken) in
+    sym (is-below _ _ (ltb-true _ _ (is-yes (c .before .before .before .stirling-fits .ensures) (c .before .before .if2 .left))) (omega arith)))
+    (λ c.
+    let none : stirlingOf (c .before .before .before .before .before .args .n) (c .before .before .before .before .before .args .k) ≤ 0 = ltb-false 0 _ (stirling-some _ _ ∙ sym (c .before .shared-out .ensures) ∙ c .if3 .left) in
+    sym (is-beyond _ _ (ltb-true _ _ (is-yes (c .before .before .before .stirling-fits .ensures) (c .before .before .if2 .left))) (omega arith))))

@@ -7,9 +7,6 @@ use Rattle.families.proofs.Floors.{floor-one-asked}
 use Rattle.families.proofs.table.floor_fits.Statement.{statement}
 use Rattle.families.proofs.table.floor_fits.Tie as tie
 
-returns : tie.Need-returns
-returns c = sym (floor-one-asked _ (c .if1 .taken))
-
 returns-2 : tie.Need-returns-2
 unfolding floorFits
 returns-2 c =
@@ -29,4 +26,4 @@ returns-4 c =
     rw (c .before .before .if2 .left, lt-leb 1 (f .floor) (c .if3 .left))
 
 pub floor-fits-spec : {M : Type 1} → statement M
-floor-fits-spec = tie.close (tie.spec returns returns-2 returns-3 returns-4)
+floor-fits-spec = tie.close (tie.spec (λ c. sym (floor-one-asked _ (c .if1 .taken))) returns-2 returns-3 returns-4)

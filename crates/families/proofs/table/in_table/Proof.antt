@@ -6,12 +6,6 @@ use Rattle.families.proofs.Dispatch.{two-limits}
 use Rattle.families.proofs.table.in_table.Statement.{statement}
 use Rattle.families.proofs.table.in_table.Tie as tie
 
-most-n-requires : tie.Need-most-n-requires
-most-n-requires c κs = search needs
-
-most-k-requires : tie.Need-most-k-requires
-most-k-requires c κs = search needs
-
 returns : tie.Need-returns
 returns c =
     let f = c .before .before .before .before .before .args .f in
@@ -23,4 +17,4 @@ returns-2 c =
     rw (two-limits f _ (c .before .before .before .pre), ← c .before .before .most-n .ensures, lt-leb (f .n) _ (c .if1 .left))
 
 pub in-table-spec : {M : Type 1} → statement M
-in-table-spec = tie.close (tie.spec most-n-requires most-k-requires returns returns-2)
+in-table-spec = tie.close (tie.spec (λ c κs. search needs) (λ c κs. search needs) returns returns-2)

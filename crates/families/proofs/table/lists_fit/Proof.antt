@@ -8,37 +8,25 @@ use borrow.Author.Tests.{eq-eqb, ne-eqb}
 use borrow.Author.Needs.{needs}
 use Rattle.families.specs.Table.{lent, noCounts}
 use Rattle.families.proofs.RowsHold.{with-counts, no-counts}
-use Rattle.families.proofs.Dispatch.{to-limit}
+use Rattle.basics.proofs.Totals.{to-limit}
 use Rattle.families.proofs.table.lists_fit.Statement.{statement}
 use Rattle.families.proofs.table.lists_fit.Tie as tie
-
-array-copy-out-counts : tie.Need-array-copy-out-counts
-array-copy-out-counts c = search needs
 
 returns : tie.Need-returns
 unfolding noCounts
 returns c = rw (← List·getD-map now (c .before .before .args .t2) 0 _) (sym (no-counts (c .before .before .args .f) (lent (map now (c .before .before .args .t2))) (c .if1 .taken)))
 
-returns-2 : tie.Need-returns-2
-returns-2 c =
-    let other = rw (← List·getD-map now (c .before .before .before .args .t2) 0 _) at (c .if2 .taken) in
-    sym (with-counts _ _ (c .before .if1 .left) ∙ rw (ne-eqb _ _ other))
-
-sum-to-limit-requires : tie.Need-sum-to-limit-requires
-sum-to-limit-requires c κs = tt
-
-returns-3 : tie.Need-returns-3
-returns-3 c =
-    let many = rw (← List·getD-map now (c .before .before .before .before .args .t2) 0 _) at (c .before .if2 .left) in
-    let sum = rw (← List·getD-map now (c .before .before .before .before .args .t2) 0 _) at (c .sum-to-limit .ensures) in
-    rw (sum, to-limit) (sym (with-counts _ _ (c .before .before .if1 .left) ∙ rw (eq-eqb _ _ many)))
-
 pub lists-fit-spec : {M : Type 1} → statement M
 lists-fit-spec =
     tie.close
     (tie.spec
-    array-copy-out-counts
+    (λ c. search needs)
     returns
-    returns-2
-    sum-to-limit-requires
-    returns-3)
+    (λ c.
+    let other = rw (← List·getD-map now (c .before .before .before .args .t2) 0 _) at (c .if2 .taken) in
+    sym (with-counts _ _ (c .before .if1 .left) ∙ rw (ne-eqb _ _ other)))
+    (λ c κs. search needs)
+    (λ c.
+    let many = rw (← List·getD-map now (c .before .before .before .before .args .t2) 0 _) at (c .before .if2 .left) in
+    let sum = rw (← List·getD-map now (c .before .before .before .before .args .t2) 0 _) at (c .sum-to-limit .ensures) in
+    rw (sum, to-limit) (sym (with-counts _ _ (c .before .before .if1 .left) ∙ rw (eq-eqb _ _ many)))))

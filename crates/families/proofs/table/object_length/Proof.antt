@@ -10,68 +10,51 @@ use denote.Ref.{now}
 use borrow.Author.Tests.{leb-true}
 use borrow.Author.Needs.{needs}
 use Rattle.numbers.specs.Limits.{places, branches}
-use Rattle.numbers.specs.Sums.{total}
-use Rattle.families.specs.Table.{lent, subsetRow, anagramRow, permutationRow, setPartitionRow, integerPartitionRow, dyckWordRow, table}
+use Rattle.basics.specs.Sums.{total}
+use Rattle.families.specs.Table.{lent}
 use Rattle.families.specs.Families.{row, objectLength}
 use Rattle.families.proofs.FamilyFacts.{has-arm}
 use Rattle.families.proofs.Dispatch.{handed, n-within, sum-fits}
 use Rattle.families.proofs.table.object_length.Statement.{statement}
 use Rattle.families.proofs.table.object_length.Tie as tie
 
-array-copy-out-counts : tie.Need-array-copy-out-counts
-array-copy-out-counts c = search needs
-
-sum-to-limit-requires : tie.Need-sum-to-limit-requires
-sum-to-limit-requires c κs = tt
-
-mul-result : tie.Need-mul-result
-unfolding table dyckWordRow
-mul-result c =
-    let t = handed 6 (c .before .before .args .f) (lent (map now (c .before .before .args .t2))) (c .match .keys6) (c .before .before .pre) in
-    let small : c .before .before .args .f .n ≤ branches = n-within _ _ _ (t .bounds) in
-    omega arith
-
 returns : tie.Need-returns
-unfolding objectLength row table subsetRow
+unfolding objectLength row
 returns c = rw (c .match .keys1)
 
-returns-2 : tie.Need-returns-2
-unfolding table anagramRow
-returns-2 c =
-    let t = handed 2 (c .before .before .before .args .f) (lent (map now (c .before .before .before .args .t2))) (c .before .match .keys2) (c .before .before .before .pre) in
-    let short = leb-true (total (lent (map now (c .before .before .before .args .t2)) .counts)) places (sum-fits t) in
-    (rw (← List·getD-map now (c .before .before .before .args .t2) 0 _) at (c .sum-to-limit .ensures)) ∙ min-eq-left (omega arith) ∙ sym (t .long)
-
 returns-3 : tie.Need-returns-3
-unfolding objectLength row table permutationRow
+unfolding objectLength row
 returns-3 c = rw (c .match .keys3)
 
 returns-4 : tie.Need-returns-4
-unfolding objectLength row table setPartitionRow
+unfolding objectLength row
 returns-4 c = rw (c .match .keys4)
 
 returns-5 : tie.Need-returns-5
-unfolding objectLength row table integerPartitionRow
+unfolding objectLength row
 returns-5 c = rw (c .match .keys5)
 
 returns-6 : tie.Need-returns-6
-unfolding objectLength row table dyckWordRow
+unfolding objectLength row
 returns-6 c = rw (c .match .keys6)
-
-returns-7 : tie.Need-returns-7
-returns-7 c = absurd (has-arm _ _ (c .before .before .pre) (c .match .rest))
 
 pub object-length-spec : {M : Type 1} → statement M
 object-length-spec =
     tie.close
     (tie.spec
-    array-copy-out-counts
-    sum-to-limit-requires
-    mul-result
+    (λ c. search needs)
+    (λ c κs. search needs)
+    (λ c.
+    let t = handed 6 (c .before .before .args .f) (lent (map now (c .before .before .args .t2))) (c .match .keys6) (c .before .before .pre) in
+    let small : c .before .before .args .f .n ≤ branches = n-within _ _ _ (t .bounds) in
+    omega arith)
     returns
-    returns-2
+    (λ c.
+    let t = handed 2 (c .before .before .before .args .f) (lent (map now (c .before .before .before .args .t2))) (c .before .match .keys2) (c .before .before .before .pre) in
+    let short = leb-true (total (lent (map now (c .before .before .before .args .t2)) .counts)) places (sum-fits t) in
+    (rw (← List·getD-map now (c .before .before .before .args .t2) 0 _) at (c .sum-to-limit .ensures)) ∙ min-eq-left (omega arith) ∙ sym (t .long))
     returns-3
     returns-4
     returns-5
     returns-6
-    returns-7)
+    (λ c. absurd (has-arm _ _ (c .before .before .pre) (c .match .rest))))

@@ -10,19 +10,10 @@ use Rattle.numbers.proofs.TriangleIndex.{place-le}
 use Rattle.pascal.proofs.lent.entry.Statement.{statement}
 use Rattle.pascal.proofs.lent.entry.Tie as tie
 
-place-requires : tie.Need-place-requires
-place-requires c κs = search needs
-
 inside : (c : tie.After-place) → c .place .result < 2346
 inside c =
     let a = c .before .args in
     omega (arith, c .place .ensures, place-le (a .n) 67 (a .k) (c .before .pre .0 .0) (c .before .pre .0 .1))
-
-mul-result : tie.Need-mul-result
-mul-result c = scaled-fits (c .place .result) 2346 8 (inside c) (lit< tt)
-
-element-copy-out-result : tie.Need-element-copy-out-result
-element-copy-out-result c = inside c
 
 returns : tie.Need-returns
 returns c =
@@ -30,4 +21,4 @@ returns c =
     ap (λ (i : ℕ). getD (a .table .now) i 0) (c .before .place .ensures) ∙ c .before .before .pre .1 .there (a .n) (a .k) (omega arith) (omega arith)
 
 pub entry-spec : {M : Type 1} → statement M
-entry-spec = tie.close (tie.spec place-requires mul-result element-copy-out-result returns)
+entry-spec = tie.close (tie.spec (λ c κs. search needs) (λ c. scaled-fits (c .place .result) 2346 8 (inside c) (lit< tt)) (λ c. inside c) returns)

@@ -35,49 +35,10 @@ Inv-loop w₀ m i₀ w i = (i ≤ m) × Part w₀ w i
 abbrev μ-loop : tie.MeasureT-loop
 μ-loop w₀ m i₀ w i = m - i
 
-loop-holds : tie.Need-loop-holds Inv-loop μ-loop
-loop-holds c = (omega arith, record { same = refl; sums = below-none _; rest = λ k h. refl })
-
-mul-w : tie.Need-mul-w Inv-loop μ-loop
-mul-w c = omega arith
-
-slice-read-w : tie.Need-slice-read-w Inv-loop μ-loop
-slice-read-w c = omega arith
-
-add-w : tie.Need-add-w Inv-loop μ-loop
-add-w c = omega arith
-
-mul-w-2 : tie.Need-mul-w-2 Inv-loop μ-loop
-mul-w-2 c = omega arith
-
-slice-read-w-2 : tie.Need-slice-read-w-2 Inv-loop μ-loop
-slice-read-w-2 c = omega arith
-
 add-w-2 : tie.Need-add-w-2 Inv-loop μ-loop
 add-w-2 c =
     let l = c .before .before .before .loop in
     record { fits = omega (arith, reads-start (l .inv .1), c .before .before .before .before .pre .1 (l .i) (c .before .before .loop-test .taken)) }
-
-mul-w-3 : tie.Need-mul-w-3 Inv-loop μ-loop
-mul-w-3 c = omega arith
-
-slice-write-w : tie.Need-slice-write-w Inv-loop μ-loop
-slice-write-w c = omega arith
-
-add-i : tie.Need-add-i Inv-loop μ-loop
-add-i c = omega arith
-
-loop-less : tie.Need-loop-less Inv-loop μ-loop
-loop-less c = omega arith
-
-loop-again : tie.Need-loop-again Inv-loop μ-loop
-loop-again c = (omega arith, turn (c .before .before .before .loop .inv .1) (omega arith))
-
-same-length : tie.Need-same-length Inv-loop μ-loop
-same-length c = c .before .loop .inv .1 .same
-
-returns : tie.Need-returns Inv-loop μ-loop
-returns c = record { same = c .before .loop .inv .1 .same; sums = λ i h. c .before .loop .inv .1 .sums i (omega arith) }
 
 pub add-neighbours-spec : {M : Type 1} → statement M
 add-neighbours-spec =
@@ -85,17 +46,17 @@ add-neighbours-spec =
     (tie.spec
     Inv-loop
     μ-loop
-    loop-holds
-    mul-w
-    slice-read-w
-    add-w
-    mul-w-2
-    slice-read-w-2
+    (λ c. (omega arith, record { same = refl; sums = below-none _; rest = λ k h. refl }))
+    (λ c. omega arith)
+    (λ c. omega arith)
+    (λ c. omega arith)
+    (λ c. omega arith)
+    (λ c. omega arith)
     add-w-2
-    mul-w-3
-    slice-write-w
-    add-i
-    loop-less
-    loop-again
-    same-length
-    returns)
+    (λ c. omega arith)
+    (λ c. omega arith)
+    (λ c. omega arith)
+    (λ c. omega arith)
+    (λ c. (omega arith, turn (c .before .before .before .loop .inv .1) (omega arith)))
+    (λ c. c .before .loop .inv .1 .same)
+    (λ c. record { same = c .before .loop .inv .1 .same; sums = λ i h. c .before .loop .inv .1 .sums i (omega arith) }))

@@ -8,17 +8,11 @@ use Rattle.pascal.proofs.Windows.{back-before, back-within}
 use Rattle.pascal.proofs.window.before_place.Statement.{statement}
 use Rattle.pascal.proofs.window.before_place.Tie as tie
 
-returns : tie.Need-returns
-returns c = sym (back-before lastRow _ _ (c .if1 .taken))
-
-returns-2 : tie.Need-returns-2
-returns-2 c = sym (back-within lastRow _ _ (c .before .if1 .left) ∙ choose-none lastRow _ (c .if2 .taken))
-
-entry-requires : tie.Need-entry-requires
-entry-requires c κs = search needs
-
-returns-3 : tie.Need-returns-3
-returns-3 c = c .entry .ensures ∙ sym (back-within lastRow _ _ (c .before .before .if1 .left))
-
 pub before-place-spec : {M : Type 1} → statement M
-before-place-spec = tie.close (tie.spec returns returns-2 entry-requires returns-3)
+before-place-spec =
+    tie.close
+    (tie.spec
+    (λ c. sym (back-before lastRow _ _ (c .if1 .taken)))
+    (λ c. sym (back-within lastRow _ _ (c .before .if1 .left) ∙ choose-none lastRow _ (c .if2 .taken)))
+    (λ c κs. search needs)
+    (λ c. c .entry .ensures ∙ sym (back-within lastRow _ _ (c .before .before .if1 .left))))

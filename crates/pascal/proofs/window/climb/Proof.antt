@@ -45,49 +45,19 @@ Inv-loop table n k w₀ left₀ w left = Reached n k w left
 abbrev μ-loop : tie.MeasureT-loop
 μ-loop table n k w₀ left₀ w left = left
 
-last-row-requires : tie.Need-last-row-requires Inv-loop μ-loop
-last-row-requires c κs = c .pre .0
-
-sub-left : tie.Need-sub-left Inv-loop μ-loop
-sub-left c = omega arith
-
-loop-holds : tie.Need-loop-holds Inv-loop μ-loop
-loop-holds c = record { row = lastRow; from = omega arith; up-to = omega arith; long = search needs; entries = λ i h. c .last-row .ensures i (omega arith) }
-
-slice-aggregate-add-neighbours : tie.Need-slice-aggregate-add-neighbours Inv-loop μ-loop
-slice-aggregate-add-neighbours c = omega arith
-
-add-neighbours-requires : tie.Need-add-neighbours-requires Inv-loop μ-loop
-add-neighbours-requires c κs = (omega arith, small (c .before .before .loop .inv) (c .before .before .before .before .pre .1 .1 .1))
-
-sub-left-2 : tie.Need-sub-left-2 Inv-loop μ-loop
-sub-left-2 c = omega arith
-
-loop-less : tie.Need-loop-less Inv-loop μ-loop
-loop-less c = omega arith
-
-loop-again : tie.Need-loop-again Inv-loop μ-loop
-loop-again c = turn (c .before .before .before .before .loop .inv) (c .before .before .before .loop-test .taken) (c .before .add-neighbours .ensures)
-
-array-read-result : tie.Need-array-read-result Inv-loop μ-loop
-array-read-result c = omega arith
-
-returns : tie.Need-returns Inv-loop μ-loop
-returns c = done (c .before .loop .inv) (c .loop-test .left)
-
 pub climb-spec : {M : Type 1} → statement M
 climb-spec =
     tie.close
     (tie.spec
     Inv-loop
     μ-loop
-    last-row-requires
-    sub-left
-    loop-holds
-    slice-aggregate-add-neighbours
-    add-neighbours-requires
-    sub-left-2
-    loop-less
-    loop-again
-    array-read-result
-    returns)
+    (λ c κs. c .pre .0)
+    (λ c. omega arith)
+    (λ c. record { row = lastRow; from = omega arith; up-to = omega arith; long = search needs; entries = λ i h. c .last-row .ensures i (omega arith) })
+    (λ c. omega arith)
+    (λ c κs. (omega arith, small (c .before .before .loop .inv) (c .before .before .before .before .pre .1 .1 .1)))
+    (λ c. omega arith)
+    (λ c. omega arith)
+    (λ c. turn (c .before .before .before .before .loop .inv) (c .before .before .before .loop-test .taken) (c .before .add-neighbours .ensures))
+    (λ c. omega arith)
+    (λ c. done (c .before .loop .inv) (c .loop-test .left)))

@@ -17,30 +17,9 @@ Inv-loop table k w₀ i₀ w i = (i ≤ width) × (length w ≡ width) × ((j : 
 abbrev μ-loop : tie.MeasureT-loop
 μ-loop table k w₀ i₀ w i = width - i
 
-loop-holds : tie.Need-loop-holds Inv-loop μ-loop
-loop-holds c = (omega arith, refl, below-none _)
-
-before-place-requires : tie.Need-before-place-requires Inv-loop μ-loop
-before-place-requires c κs = c .before .before .pre
-
-mul-w : tie.Need-mul-w Inv-loop μ-loop
-mul-w c = omega arith
-
-array-write-w : tie.Need-array-write-w Inv-loop μ-loop
-array-write-w c = omega arith
-
-add-i : tie.Need-add-i Inv-loop μ-loop
-add-i c = omega arith
-
-loop-less : tie.Need-loop-less Inv-loop μ-loop
-loop-less c = omega arith
-
 loop-again : tie.Need-loop-again Inv-loop μ-loop
 loop-again c =
     (omega arith, simp length-set (c .before .before .loop .inv .1), stored-below (λ j x. x ≡ back lastRow (c .before .before .before .args .k) j) (c .before .before .loop .w) _ _ (omega arith) (c .before-place .ensures) (c .before .before .loop .inv .2))
-
-returns : tie.Need-returns Inv-loop μ-loop
-returns c = λ i h. c .before .loop .inv .2 i (omega arith)
 
 pub last-row-spec : {M : Type 1} → statement M
 last-row-spec =
@@ -48,11 +27,11 @@ last-row-spec =
     (tie.spec
     Inv-loop
     μ-loop
-    loop-holds
-    before-place-requires
-    mul-w
-    array-write-w
-    add-i
-    loop-less
+    (λ c. (omega arith, refl, below-none _))
+    (λ c κs. c .before .before .pre)
+    (λ c. omega arith)
+    (λ c. omega arith)
+    (λ c. omega arith)
+    (λ c. omega arith)
     loop-again
-    returns)
+    (λ c. λ i h. c .before .loop .inv .2 i (omega arith)))

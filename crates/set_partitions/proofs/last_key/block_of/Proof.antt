@@ -1,21 +1,19 @@
 -- `set_partitions::last_key::block_of` meets its contract: the last block, or that of the key.
 -- Assumes nothing.
+use mathlib.Core.Path.{_≡_}
+use Prim.Native.Nat.{suc, _-_}
+use native.Mathlib.Omega.{arith}
 use borrow.Author.Needs.{needs}
-use Rattle.set_partitions.proofs.KeyCases.{block-of-alone, block-of-joined}
+use Rattle.set_partitions.specs.Listing.{blockOf}
 use Rattle.set_partitions.proofs.last_key.block_of.Statement.{statement}
 use Rattle.set_partitions.proofs.last_key.block_of.Tie as tie
 
-cast-result : tie.Need-cast-result
-cast-result c = search needs
-
-cast-result-2 : tie.Need-cast-result-2
-cast-result-2 c = search needs
-
-returns : tie.Need-returns
-returns c = let a = c .before .args in block-of-alone (a .k) (c .before .pre .0) (a .key) (c .if1 .taken)
-
-returns-2 : tie.Need-returns-2
-returns-2 c = let a = c .before .args in block-of-joined (a .k) (c .before .pre .0) (a .key) (c .if1 .left)
-
 pub block-of-spec : {M : Type 1} → statement M
-block-of-spec = tie.close (tie.spec cast-result cast-result-2 returns returns-2)
+unfolding blockOf
+block-of-spec =
+    tie.close
+    (tie.spec
+    (λ c. search needs)
+    (λ c. search needs)
+    (λ c. rw (c .if1 .taken) (omega (arith, c .before .pre .0)))
+    (λ c. let a = c .before .args in let e : a .key ≡ suc (a .key - 1) = omega (arith, c .if1 .left) in rw e))

@@ -1,18 +1,18 @@
 -- `set_partitions::last_key::others_in` meets its contract: one block fewer, or as many.
 -- Assumes nothing.
+use mathlib.Core.Path.{_≡_}
+use Prim.Native.Nat.{suc, _-_}
+use native.Mathlib.Omega.{arith}
 use borrow.Author.Needs.{needs}
-use Rattle.set_partitions.proofs.KeyCases.{others-of-alone, others-of-joined}
+use Rattle.set_partitions.specs.Listing.{othersIn}
 use Rattle.set_partitions.proofs.last_key.others_in.Statement.{statement}
 use Rattle.set_partitions.proofs.last_key.others_in.Tie as tie
 
-sub-result : tie.Need-sub-result
-sub-result c = search needs
-
-returns : tie.Need-returns
-returns c = let a = c .before .args in others-of-alone (a .k) (c .before .pre) (a .key) (c .if1 .taken)
-
-returns-2 : tie.Need-returns-2
-returns-2 c = let a = c .before .args in others-of-joined (a .k) (c .before .pre) (a .key) (c .if1 .left)
-
 pub others-in-spec : {M : Type 1} → statement M
-others-in-spec = tie.close (tie.spec sub-result returns returns-2)
+unfolding othersIn
+others-in-spec =
+    tie.close
+    (tie.spec
+    (λ c. search needs)
+    (λ c. rw (c .if1 .taken))
+    (λ c. let a = c .before .args in let e : a .key ≡ suc (a .key - 1) = omega (arith, c .if1 .left) in rw e (omega (arith, c .before .pre))))

@@ -6,11 +6,9 @@ use Rattle.set_partitions.proofs.Facts.{key-new, key-old}
 use Rattle.set_partitions.proofs.search.key_of.Statement.{statement}
 use Rattle.set_partitions.proofs.search.key_of.Tie as tie
 
-returns : tie.Need-returns
-returns c = let a = c .before .args in sym (key-new (a .used) (a .b) (omega arith))
-
-returns-2 : tie.Need-returns-2
-returns-2 c = let a = c .before .args in sym (key-old (a .used) (a .b) (omega arith))
-
 pub key-of-spec : {M : Type 1} → statement M
-key-of-spec = tie.close (tie.spec returns returns-2)
+key-of-spec =
+    tie.close
+    (tie.spec
+    (λ c. let a = c .before .args in sym (key-new (a .used) (a .b) (omega arith)))
+    (λ c. let a = c .before .args in sym (key-old (a .used) (a .b) (omega arith))))

@@ -20,24 +20,6 @@ Inv-loop object keys₀ used₀ i₀ keys used i = (i ≤ length object) × ((pl
 abbrev μ-loop : tie.MeasureT-loop
 μ-loop object keys₀ used₀ i₀ keys used i = length object - i
 
-loop-holds : tie.Need-loop-holds Inv-loop μ-loop
-loop-holds c = (omega arith, (refl, refl))
-
-shared-slice-read-b : tie.Need-shared-slice-read-b Inv-loop μ-loop
-shared-slice-read-b c = search needs
-
-key-of-requires : tie.Need-key-of-requires Inv-loop μ-loop
-key-of-requires c κs = search needs
-
-array-write-keys : tie.Need-array-write-keys Inv-loop μ-loop
-array-write-keys c = search needs
-
-add-i : tie.Need-add-i Inv-loop μ-loop
-add-i c = search needs
-
-loop-less : tie.Need-loop-less Inv-loop μ-loop
-loop-less c = search needs
-
 loop-again : tie.Need-loop-again Inv-loop μ-loop
 loop-again c =
     let x : Bytes = c .before .before .before .before .before .before .args .object .now in
@@ -57,11 +39,11 @@ keys-of-spec =
     (tie.spec
     Inv-loop
     μ-loop
-    loop-holds
-    shared-slice-read-b
-    key-of-requires
-    array-write-keys
-    add-i
-    loop-less
+    (λ c. (omega arith, (refl, refl)))
+    (λ c. search needs)
+    (λ c κs. search needs)
+    (λ c. search needs)
+    (λ c. search needs)
+    (λ c. search needs)
     loop-again
     returns)

@@ -4,14 +4,5 @@ use native.Mathlib.Omega.{arith}
 use Rattle.slip.proofs.grammar.at_most_255.Statement.{statement}
 use Rattle.slip.proofs.grammar.at_most_255.Tie as tie
 
-cast-result : tie.Need-cast-result
-cast-result c = omega arith
-
-returns : tie.Need-returns
-returns c = omega arith
-
-returns-2 : tie.Need-returns-2
-returns-2 c = omega arith
-
 pub at-most-255-spec : {M : Type 1} → statement M
-at-most-255-spec = tie.close (tie.spec cast-result returns returns-2)
+at-most-255-spec = tie.close (tie.spec (λ c. omega arith) (λ c. omega arith) (λ c. omega arith))

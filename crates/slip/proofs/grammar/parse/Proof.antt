@@ -1,7 +1,6 @@
 -- `slip::grammar::parse` meets its contract: each way out is a law of the first line.
 -- Assumes nothing.
 use mathlib.Core.Path.{refl, sym, _∙_, ap, subst}
-use mathlib.Core.List.{_∷_, []}
 use Prim.Native.Nat.{ℕ, _≤_}
 use native.Mathlib.Omega.{arith}
 use lib.ListN.{take, drop, length-take}
@@ -22,21 +21,9 @@ returns : tie.Need-returns
 unfolding parsedAs
 returns c = (at-most-malformed mostCounts, slip-short (c .before .before .before .args .input .now) (c .if1 .taken))
 
-shared-slice-read-if2 : tie.Need-shared-slice-read-if2
-shared-slice-read-if2 c = search needs
-
 returns-2 : tie.Need-returns-2
 unfolding parsedAs
 returns-2 c = (at-most-malformed mostCounts, slip-open (c .before .before .before .before .before .args .input .now) (c .if2 .taken))
-
-number-at-requires : tie.Need-number-at-requires
-number-at-requires c κs = search needs
-
-enum-known-kind : tie.Need-enum-known-kind
-enum-known-kind c = search needs
-
-enum-told : tie.Need-enum-told
-enum-told c = search needs
 
 returns-3 : tie.Need-returns-3
 unfolding slipFrom consField parsedAs valueAs
@@ -44,15 +31,6 @@ returns-3 c = (
   at-most-malformed mostCounts,
   slip-is (c .before .before .before .before .before .before .before .before .args .input .now) (c .before .before .before .before .before .if1 .left) (c .before .before .before .if2 .left) (sym (c .before .before .number-at .ensures) ∙ ap valueAs (c .enum-told .given .1)) refl refl,
 )
-
-number-at-requires-2 : tie.Need-number-at-requires-2
-number-at-requires-2 c κs = search needs
-
-enum-known-n : tie.Need-enum-known-n
-enum-known-n c = search needs
-
-enum-told-2 : tie.Need-enum-told-2
-enum-told-2 c = search needs
 
 returns-4 : tie.Need-returns-4
 unfolding slipFrom consField parsedAs valueAs
@@ -64,15 +42,6 @@ returns-4 c = (
       refl,
 )
 
-number-at-requires-3 : tie.Need-number-at-requires-3
-number-at-requires-3 c κs = search needs
-
-enum-known-k : tie.Need-enum-known-k
-enum-known-k c = search needs
-
-enum-told-3 : tie.Need-enum-told-3
-enum-told-3 c = search needs
-
 returns-5 : tie.Need-returns-5
 unfolding slipFrom consField parsedAs valueAs
 returns-5 c = (
@@ -83,26 +52,11 @@ returns-5 c = (
       (sym (c .before .before .number-at3 .ensures) ∙ ap valueAs (c .enum-told3 .given .1)),
 )
 
-plain-family-requires : tie.Need-plain-family-requires
-plain-family-requires c κs = search needs
-
-sub-second-line : tie.Need-sub-second-line
-sub-second-line c = search needs
-
-part-second-line-start : tie.Need-part-second-line-start
-part-second-line-start c = search needs
-
-part-second-line-end : tie.Need-part-second-line-end
-part-second-line-end c = search needs
-
 second-line-requires : tie.Need-second-line-requires
 unfolding valueAs
 second-line-requires c κs =
     let x = c .before .before .before .before .before .before .before .before .before .before .before .before .before .before .before .before .before .before .before .before .args .input .now in
     (subst (λ (v : ℕ). v ≤ mostCounts) (sym (ap (λ (g : Family). g .n) (c .before .before .plain-family .ensures))) (field-small (take fieldWidth (drop fieldWidth x)) (c .before .before .before .before .before .before .before .before .n .given .0 .0) (simp length-take (omega arith)) (sym (c .before .before .before .before .before .before .before .before .before .before .number-at2 .ensures) ∙ ap valueAs (c .before .before .before .before .before .before .before .before .n .given .1))), search needs)
-
-same-length : tie.Need-same-length
-same-length c = search needs
 
 returns-6 : tie.Need-returns-6
 unfolding slipFrom consField parsedAs valueAs familyOf
@@ -123,24 +77,24 @@ parse-spec =
     tie.close
     (tie.spec
     returns
-    shared-slice-read-if2
+    (λ c. search needs)
     returns-2
-    number-at-requires
-    enum-known-kind
-    enum-told
+    (λ c κs. search needs)
+    (λ c. search needs)
+    (λ c. search needs)
     returns-3
-    number-at-requires-2
-    enum-known-n
-    enum-told-2
+    (λ c κs. search needs)
+    (λ c. search needs)
+    (λ c. search needs)
     returns-4
-    number-at-requires-3
-    enum-known-k
-    enum-told-3
+    (λ c κs. search needs)
+    (λ c. search needs)
+    (λ c. search needs)
     returns-5
-    plain-family-requires
-    sub-second-line
-    part-second-line-start
-    part-second-line-end
+    (λ c κs. search needs)
+    (λ c. search needs)
+    (λ c. search needs)
+    (λ c. search needs)
     second-line-requires
-    same-length
+    (λ c. search needs)
     returns-6)

@@ -10,7 +10,6 @@ use borrow.Author.Needs.{needs}
 use Rattle.columns.specs.Fields.{fieldWidth}
 use Rattle.columns.specs.inner.Writing.{valueAs}
 use Rattle.slip.specs.Grammar.{fields, handedOn}
-use Rattle.slip.specs.inner.Reading.{countsAs}
 use Rattle.slip.proofs.LineLaws.{after, counts-none, counts-bad, counts-more, counts-all}
 use Rattle.slip.proofs.grammar.read_counts.Statement.{statement}
 use Rattle.slip.proofs.grammar.read_counts.Tie as tie
@@ -24,39 +23,12 @@ Inv-loop line counts₀ i₀ counts i =
 abbrev μ-loop : tie.MeasureT-loop
 μ-loop line counts₀ i₀ counts i = length counts₀ - i
 
-loop-holds : tie.Need-loop-holds Inv-loop μ-loop
-loop-holds c = (omega arith, (refl, counts-none (c .before .before .args .line .now) (length (c .before .before .args .counts .now))))
-
-number-at-requires : tie.Need-number-at-requires Inv-loop μ-loop
-number-at-requires c κs = search needs
-
-enum-known-v : tie.Need-enum-known-v Inv-loop μ-loop
-enum-known-v c = search needs
-
-enum-told : tie.Need-enum-told Inv-loop μ-loop
-enum-told c = search needs
-
-same-length : tie.Need-same-length Inv-loop μ-loop
-same-length c = search needs
-
 returns : tie.Need-returns Inv-loop μ-loop
-unfolding countsAs valueAs
+unfolding valueAs
 returns c =
     let l = c .before .before .before .before .loop in
     let a = c .before .before .before .before .before .before .before .args in
     l .inv .1 .1 ∙ counts-bad (take (l .i) (l .counts)) (a .line .now) (length (a .counts .now)) (l .i) (omega arith) (sym (c .before .before .number-at .ensures) ∙ ap valueAs (c .enum-told .given .1))
-
-at-most-255-requires : tie.Need-at-most-255-requires Inv-loop μ-loop
-at-most-255-requires c κs = search needs
-
-slice-write-counts : tie.Need-slice-write-counts Inv-loop μ-loop
-slice-write-counts c = search needs
-
-add-i : tie.Need-add-i Inv-loop μ-loop
-add-i c = search needs
-
-loop-less : tie.Need-loop-less Inv-loop μ-loop
-loop-less c = search needs
 
 loop-again : tie.Need-loop-again Inv-loop μ-loop
 unfolding valueAs
@@ -73,11 +45,7 @@ loop-again c =
       ),
     )
 
-same-length-2 : tie.Need-same-length-2 Inv-loop μ-loop
-same-length-2 c = search needs
-
 returns-2 : tie.Need-returns-2 Inv-loop μ-loop
-unfolding countsAs
 returns-2 c =
     let l = c .before .loop in
     let a = c .before .before .before .before .args in
@@ -89,16 +57,16 @@ read-counts-spec =
     (tie.spec
     Inv-loop
     μ-loop
-    loop-holds
-    number-at-requires
-    enum-known-v
-    enum-told
-    same-length
+    (λ c. (omega arith, (refl, counts-none (c .before .before .args .line .now) (length (c .before .before .args .counts .now)))))
+    (λ c κs. search needs)
+    (λ c. search needs)
+    (λ c. search needs)
+    (λ c. search needs)
     returns
-    at-most-255-requires
-    slice-write-counts
-    add-i
-    loop-less
+    (λ c κs. search needs)
+    (λ c. search needs)
+    (λ c. search needs)
+    (λ c. search needs)
     loop-again
-    same-length-2
+    (λ c. search needs)
     returns-2)

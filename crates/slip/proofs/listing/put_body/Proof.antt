@@ -14,15 +14,6 @@ use Rattle.families.proofs.Going.{Told, length-known, length-not-refused}
 use Rattle.slip.proofs.listing.put_body.Statement.{statement}
 use Rattle.slip.proofs.listing.put_body.Tie as tie
 
-object-length-requires : tie.Need-object-length-requires
-object-length-requires c κs = search needs
-
-enum-known-size : tie.Need-enum-known-size
-enum-known-size c = search needs
-
-enum-told : tie.Need-enum-told
-enum-told c = search needs
-
 returns : tie.Need-returns
 returns c =
     let a = c .before .before .before .before .args in
@@ -32,34 +23,22 @@ returns c =
 told : (c : tie.After-known-told) → Told (c .before .before .before .before .before .args .f) (lent (map now (c .before .before .before .before .before .args .lists))) (c .before .size .given .0 .0)
 told c = let a = c .before .before .before .before .before .args in length-known (a .f) (lent (map now (a .lists))) (rw (c .before .size .given .1) at (c .before .before .before .object-length .ensures))
 
-array-borrow-prefix-space : tie.Need-array-borrow-prefix-space
-array-borrow-prefix-space c = omega (arith, told (c .before) .within)
-
-slice-aggregate-put-listing : tie.Need-slice-aggregate-put-listing
-slice-aggregate-put-listing c = sym (length-take-le (c .before .before .before .size .given .0 .0) (replicate {A = ℕ} longestObject 0) (told (c .before .before) .within))
-
 put-listing-requires : tie.Need-put-listing-requires
 put-listing-requires c κs =
     let n = c .before .before .before .size .given .0 .0 in
     let e : length (take n (replicate {A = ℕ} longestObject 0)) ≡ n = length-take-le n (replicate {A = ℕ} longestObject 0) (told (c .before .before) .within) in
     (search needs, (rw e (told (c .before .before) .within), (e ∙ told (c .before .before) .long, told (c .before .before) .admitted)))
 
-same-length : tie.Need-same-length
-same-length c = search needs
-
-returns-2 : tie.Need-returns-2
-returns-2 c = search needs
-
 pub put-body-spec : {M : Type 1} → statement M
 put-body-spec =
     tie.close
     (tie.spec
-    object-length-requires
-    enum-known-size
-    enum-told
+    (λ c κs. search needs)
+    (λ c. search needs)
+    (λ c. search needs)
     returns
-    array-borrow-prefix-space
-    slice-aggregate-put-listing
+    (λ c. omega (arith, told (c .before) .within))
+    (λ c. sym (length-take-le (c .before .before .before .size .given .0 .0) (replicate {A = ℕ} longestObject 0) (told (c .before .before) .within)))
     put-listing-requires
-    same-length
-    returns-2)
+    (λ c. search needs)
+    (λ c. search needs))

@@ -26,29 +26,11 @@ loop-holds : tie.Need-loop-holds Inv-loop μ-loop
 unfolding flatMap
 loop-holds c = (omega arith, (refl, (omega arith, wrote-nothing _ _)))
 
-shared-slice-read-put-column : tie.Need-shared-slice-read-put-column Inv-loop μ-loop
-shared-slice-read-put-column c = search needs
-
-cast-put-column : tie.Need-cast-put-column Inv-loop μ-loop
-cast-put-column c = omega (arith, c .shared-slice-known2 .given (c .before .before .before .loop .i))
-
-put-column-requires : tie.Need-put-column-requires Inv-loop μ-loop
-put-column-requires c κs = search needs
-
-add-i : tie.Need-add-i Inv-loop μ-loop
-add-i c = search needs
-
-loop-less : tie.Need-loop-less Inv-loop μ-loop
-loop-less c = search needs
-
 loop-again : tie.Need-loop-again Inv-loop μ-loop
 loop-again c =
     let l = c .before .before .before .before .before .before .loop in
     let x = c .before .before .before .before .before .before .before .before .before .args .object .now in
     (omega arith, (search needs, (omega arith, rw (bytes-more (column fieldWidth) x (l .i) (omega arith)) (then (l .inv .1 .1 .1) (c .before .before .put-column .ensures .1)))))
-
-same-length : tie.Need-same-length Inv-loop μ-loop
-same-length c = search needs
 
 returns : tie.Need-returns Inv-loop μ-loop
 returns c =
@@ -63,11 +45,11 @@ put-bytes-spec =
     Inv-loop
     μ-loop
     loop-holds
-    shared-slice-read-put-column
-    cast-put-column
-    put-column-requires
-    add-i
-    loop-less
+    (λ c. search needs)
+    (λ c. omega (arith, c .shared-slice-known2 .given (c .before .before .before .loop .i)))
+    (λ c κs. search needs)
+    (λ c. search needs)
+    (λ c. search needs)
     loop-again
-    same-length
+    (λ c. search needs)
     returns)

@@ -8,18 +8,6 @@ use borrow.Author.Needs.{needs}
 use Rattle.slip.proofs.listing.put_family.Statement.{statement}
 use Rattle.slip.proofs.listing.put_family.Tie as tie
 
-put-column-requires : tie.Need-put-column-requires
-put-column-requires c κs = search needs
-
-put-column-requires-2 : tie.Need-put-column-requires-2
-put-column-requires-2 c κs = search needs
-
-put-column-requires-3 : tie.Need-put-column-requires-3
-put-column-requires-3 c κs = search needs
-
-same-length : tie.Need-same-length
-same-length c = search needs
-
 returns : tie.Need-returns
 unfolding familyColumns
 returns c = (omega arith, rw append-assoc at (then (then (c .before .before .before .before .before .before .before .before .before .before .put-column .ensures .1) (c .before .before .before .before .before .before .put-column2 .ensures .1)) (c .before .before .put-column3 .ensures .1)))
@@ -27,4 +15,4 @@ returns c = (omega arith, rw append-assoc at (then (then (c .before .before .bef
 pub put-family-spec : {M : Type 1} → statement M
 put-family-spec =
     tie.close
-    (tie.spec put-column-requires put-column-requires-2 put-column-requires-3 same-length returns)
+    (tie.spec (λ c κs. search needs) (λ c κs. search needs) (λ c κs. search needs) (λ c. search needs) returns)

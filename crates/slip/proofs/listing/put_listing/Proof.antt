@@ -10,24 +10,6 @@ use Rattle.slip.proofs.Lines.{nothing-listed}
 use Rattle.slip.proofs.listing.put_listing.Statement.{statement}
 use Rattle.slip.proofs.listing.put_listing.Tie as tie
 
-first-requires : tie.Need-first-requires
-first-requires c κs = search needs
-
-enum-told : tie.Need-enum-told
-enum-told c = search needs
-
-enum-told-2 : tie.Need-enum-told-2
-enum-told-2 c = search needs
-
-put-last-requires : tie.Need-put-last-requires
-put-last-requires c κs = search needs
-
-same-length : tie.Need-same-length
-same-length c = search needs
-
-same-length-2 : tie.Need-same-length-2
-same-length-2 c = search needs
-
 returns : tie.Need-returns
 returns c =
     let a = c .before .before .before .before .before .before .before .before .before .before .before .before .args in
@@ -39,27 +21,18 @@ put-objects-requires c κs =
     let a = c .before .before .before .before .before .before .before .before .before .before .args in
     (search needs, (search needs, starts (a .f) (lent (map now (a .lists))) (a .object .now) (rw (c .before .before .enum-told .given .1) at (c .before .before .before .before .before .before .first .ensures))))
 
-same-length-3 : tie.Need-same-length-3
-same-length-3 c = search needs
-
-same-length-4 : tie.Need-same-length-4
-same-length-4 c = search needs
-
-returns-2 : tie.Need-returns-2
-returns-2 c = search needs
-
 pub put-listing-spec : {M : Type 1} → statement M
 put-listing-spec =
     tie.close
     (tie.spec
-    first-requires
-    enum-told
-    enum-told-2
-    put-last-requires
-    same-length
-    same-length-2
+    (λ c κs. search needs)
+    (λ c. search needs)
+    (λ c. search needs)
+    (λ c κs. search needs)
+    (λ c. search needs)
+    (λ c. search needs)
     returns
     put-objects-requires
-    same-length-3
-    same-length-4
-    returns-2)
+    (λ c. search needs)
+    (λ c. search needs)
+    (λ c. search needs))

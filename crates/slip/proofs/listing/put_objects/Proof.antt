@@ -37,24 +37,6 @@ loop-holds : tie.Need-loop-holds Inv-loop μ-loop
 unfolding objectLines
 loop-holds c = (omega arith, (refl, (refl, (omega arith, (c .before .before .pre .1 .1, wrote-nothing _ _)))))
 
-put-object-requires : tie.Need-put-object-requires Inv-loop μ-loop
-put-object-requires c κs = search needs
-
-next-requires : tie.Need-next-requires Inv-loop μ-loop
-next-requires c κs = search needs
-
-enum-told : tie.Need-enum-told Inv-loop μ-loop
-enum-told c = search needs
-
-put-last-requires : tie.Need-put-last-requires Inv-loop μ-loop
-put-last-requires c κs = search needs
-
-same-length : tie.Need-same-length Inv-loop μ-loop
-same-length c = search needs
-
-same-length-2 : tie.Need-same-length-2 Inv-loop μ-loop
-same-length-2 c = search needs
-
 returns : tie.Need-returns Inv-loop μ-loop
 returns c =
     let l = c .before .before .before .before .before .before .before .before .before .before .before .before .before .before .before .loop in
@@ -65,12 +47,6 @@ returns c =
     let last = stops (a .f) (lent (map now (a .lists))) (l .rank) here (not-moved (c .before .before .before .before .before .before .before .next .result) (c .before .before .before .before .match .keys2)) (c .before .before .before .before .before .before .before .next .ensures) in
     ended s (l .rank + 1) line (omega arith) (omega arith) (c .before .before .put-last .ensures)
 
-add-rank : tie.Need-add-rank Inv-loop μ-loop
-add-rank c = search needs
-
-loop-less : tie.Need-loop-less Inv-loop μ-loop
-loop-less c = search needs
-
 loop-again : tie.Need-loop-again Inv-loop μ-loop
 loop-again c =
     let l = c .before .before .before .before .before .before .before .before .before .before .before .before .loop in
@@ -80,15 +56,6 @@ loop-again c =
     let line = line-written s (l .rank) (l .inv .1 .1 .1 .1 .1) here (c .before .before .before .before .before .before .before .before .put-object .ensures .1) in
     let there = moves-on (a .f) (lent (map now (a .lists))) (l .rank) here (rw (c .enum-told .given .1) at (c .before .before .before .before .next .ensures)) in
     (omega arith, (search needs, (search needs, (omega arith, (rw add-one there, line)))))
-
-put-last-requires-2 : tie.Need-put-last-requires-2 Inv-loop μ-loop
-put-last-requires-2 c κs = search needs
-
-same-length-3 : tie.Need-same-length-3 Inv-loop μ-loop
-same-length-3 c = search needs
-
-same-length-4 : tie.Need-same-length-4 Inv-loop μ-loop
-same-length-4 c = search needs
 
 returns-2 : tie.Need-returns-2 Inv-loop μ-loop
 returns-2 c =
@@ -104,17 +71,17 @@ put-objects-spec =
     Inv-loop
     μ-loop
     loop-holds
-    put-object-requires
-    next-requires
-    enum-told
-    put-last-requires
-    same-length
-    same-length-2
+    (λ c κs. search needs)
+    (λ c κs. search needs)
+    (λ c. search needs)
+    (λ c κs. search needs)
+    (λ c. search needs)
+    (λ c. search needs)
     returns
-    add-rank
-    loop-less
+    (λ c. search needs)
+    (λ c. search needs)
     loop-again
-    put-last-requires-2
-    same-length-3
-    same-length-4
+    (λ c κs. search needs)
+    (λ c. search needs)
+    (λ c. search needs)
     returns-2)

@@ -9,36 +9,18 @@ use Rattle.slip.proofs.Lines.{text-counted, text-refused}
 use Rattle.slip.proofs.listing.put_text.Statement.{statement}
 use Rattle.slip.proofs.listing.put_text.Tie as tie
 
-count-requires : tie.Need-count-requires
-count-requires c κs = search needs
-
-enum-known-n : tie.Need-enum-known-n
-enum-known-n c = search needs
-
 put-counted-requires : tie.Need-put-counted-requires
 put-counted-requires c κs =
     let a = c .before .before .before .before .before .before .args in
     (search needs, counted-allowed (a .f) (lent (map now (a .lists))) (rw (c .before .before .n .given .1) at (c .before .before .before .before .count .ensures)))
-
-enum-known-q : tie.Need-enum-known-q
-enum-known-q c = search needs
-
-cast-put-uncounted : tie.Need-cast-put-uncounted
-cast-put-uncounted c = search needs
 
 put-uncounted-requires : tie.Need-put-uncounted-requires
 put-uncounted-requires c κs =
     let a = c .before .before .before .before .before .before .args in
     (search needs, λ e. many-allowed (a .f) (lent (map now (a .lists))) (rw e at (rw (c .before .before .q .given .1) at (c .before .before .before .before .count .ensures))))
 
-same-length : tie.Need-same-length
-same-length c = search needs
-
 returns : tie.Need-returns
 returns c = rw (text-counted (c .before .before .before .before .before .before .before .before .before .args .f) (lent (map now (c .before .before .before .before .before .before .before .before .before .args .lists))) (rw (c .before .before .before .before .before .n .given .1) at (c .before .before .before .before .before .before .before .count .ensures))) (c .before .before .put-counted .ensures)
-
-same-length-2 : tie.Need-same-length-2
-same-length-2 c = search needs
 
 returns-2 : tie.Need-returns-2
 returns-2 c = rw (text-refused (c .before .before .before .before .before .before .before .before .before .args .f) (lent (map now (c .before .before .before .before .before .before .before .before .before .args .lists))) (rw (c .before .before .before .before .before .q .given .1) at (c .before .before .before .before .before .before .before .count .ensures))) (c .before .before .put-uncounted .ensures)
@@ -47,13 +29,13 @@ pub put-text-spec : {M : Type 1} → statement M
 put-text-spec =
     tie.close
     (tie.spec
-    count-requires
-    enum-known-n
+    (λ c κs. search needs)
+    (λ c. search needs)
     put-counted-requires
-    enum-known-q
-    cast-put-uncounted
+    (λ c. search needs)
+    (λ c. search needs)
     put-uncounted-requires
-    same-length
+    (λ c. search needs)
     returns
-    same-length-2
+    (λ c. search needs)
     returns-2)

@@ -10,33 +10,12 @@ use Rattle.slip.proofs.Lines.{headed}
 use Rattle.slip.proofs.listing.put_uncounted.Statement.{statement}
 use Rattle.slip.proofs.listing.put_uncounted.Tie as tie
 
-put-refused-requires : tie.Need-put-refused-requires
-put-refused-requires c κs = search needs
-
-same-length : tie.Need-same-length
-same-length c = search needs
-
 returns : tie.Need-returns
 unfolding said
 returns c = rw (ne-eqb (c .before .before .before .before .before .before .args .q) 5 (c .before .before .before .before .if1 .taken)) (c .before .before .put-refused .ensures)
 
-put-family-requires : tie.Need-put-family-requires
-put-family-requires c κs = search needs
-
-slice-aggregate-put-justified : tie.Need-slice-aggregate-put-justified
-slice-aggregate-put-justified c = search needs
-
-put-justified-requires : tie.Need-put-justified-requires
-put-justified-requires c κs = search needs
-
-put-byte-requires : tie.Need-put-byte-requires
-put-byte-requires c κs = search needs
-
 put-body-requires : tie.Need-put-body-requires
 put-body-requires c κs = (search needs, c .before .before .before .before .before .before .before .before .before .before .before .before .before .before .before .before .pre .1 (c .before .before .before .before .before .before .before .before .before .before .before .before .before .before .if1 .left))
-
-same-length-2 : tie.Need-same-length-2
-same-length-2 c = search needs
 
 returns-2 : tie.Need-returns-2
 unfolding said
@@ -46,13 +25,13 @@ pub put-uncounted-spec : {M : Type 1} → statement M
 put-uncounted-spec =
     tie.close
     (tie.spec
-    put-refused-requires
-    same-length
+    (λ c κs. search needs)
+    (λ c. search needs)
     returns
-    put-family-requires
-    slice-aggregate-put-justified
-    put-justified-requires
-    put-byte-requires
+    (λ c κs. search needs)
+    (λ c. search needs)
+    (λ c κs. search needs)
+    (λ c κs. search needs)
     put-body-requires
-    same-length-2
+    (λ c. search needs)
     returns-2)

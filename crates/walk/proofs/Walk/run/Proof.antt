@@ -21,30 +21,6 @@ Inv-loop lists on answers₀ walk₀ i₀ answers walk i =
 abbrev μ-loop : tie.MeasureT-loop
 μ-loop lists on answers₀ walk₀ i₀ answers walk i = length on - i
 
-loop-holds : tie.Need-loop-holds Inv-loop μ-loop
-loop-holds c = (refl, none-taken _ _ _ _)
-
-shared-slice-read-way-of : tie.Need-shared-slice-read-way-of Inv-loop μ-loop
-shared-slice-read-way-of c = search needs
-
-way-of-requires : tie.Need-way-of-requires Inv-loop μ-loop
-way-of-requires c κs = tt
-
-step-requires : tie.Need-step-requires Inv-loop μ-loop
-step-requires c κs = tt
-
-stepped-requires : tie.Need-stepped-requires Inv-loop μ-loop
-stepped-requires c κs = tt
-
-slice-write-answers : tie.Need-slice-write-answers Inv-loop μ-loop
-slice-write-answers c = search needs
-
-add-i : tie.Need-add-i Inv-loop μ-loop
-add-i c = search needs
-
-loop-less : tie.Need-loop-less Inv-loop μ-loop
-loop-less c = search needs
-
 loop-again : tie.Need-loop-again Inv-loop μ-loop
 loop-again c =
     let l = c .before .before .before .before .before .before .before .loop in
@@ -53,34 +29,22 @@ loop-again c =
     let went = rw (c .before .before .before .way-of .ensures) at (c .before .before .step .ensures) in
     (length-set (l .answers) (l .i) _ ∙ l .inv .0, rw (add-one (l .i)) (one-more b (l .walk) (a .on .now) (l .answers) (l .i) (c .before .before .before .before .before .before .loop-test .taken) (ltb-true _ _ (c .before .before .before .before .before .if1 .taken)) went (c .before .stepped .ensures) ∙ l .inv .1))
 
-same-length : tie.Need-same-length Inv-loop μ-loop
-same-length c = search needs
-
-returns : tie.Need-returns Inv-loop μ-loop
-returns c = room-taken _ _ _ _ _ (ltb-false _ _ (c .if1 .left)) ∙ c .before .before .loop .inv .1
-
-same-length-2 : tie.Need-same-length-2 Inv-loop μ-loop
-same-length-2 c = search needs
-
-returns-2 : tie.Need-returns-2 Inv-loop μ-loop
-returns-2 c = all-taken _ _ _ _ _ (c .loop-test .left) ∙ c .before .loop .inv .1
-
 pub run-spec : {M : Type 1} → statement M
 run-spec =
     tie.close
     (tie.spec
     Inv-loop
     μ-loop
-    loop-holds
-    shared-slice-read-way-of
-    way-of-requires
-    step-requires
-    stepped-requires
-    slice-write-answers
-    add-i
-    loop-less
+    (λ c. (refl, none-taken _ _ _ _))
+    (λ c. search needs)
+    (λ c κs. tt)
+    (λ c κs. tt)
+    (λ c κs. tt)
+    (λ c. search needs)
+    (λ c. search needs)
+    (λ c. search needs)
     loop-again
-    same-length
-    returns
-    same-length-2
-    returns-2)
+    (λ c. search needs)
+    (λ c. room-taken _ _ _ _ _ (ltb-false _ _ (c .if1 .left)) ∙ c .before .before .loop .inv .1)
+    (λ c. search needs)
+    (λ c. all-taken _ _ _ _ _ (c .loop-test .left) ∙ c .before .loop .inv .1))

@@ -10,21 +10,9 @@ use borrow.Author.Needs.{needs}
 use Rattle.walk.proofs.Walk.start.Statement.{statement}
 use Rattle.walk.proofs.Walk.start.Tie as tie
 
-rank-requires : tie.Need-rank-requires
-rank-requires c κs = search needs
-
-enum-known-answer : tie.Need-enum-known-answer
-enum-known-answer c = search needs
-
-enum-told : tie.Need-enum-told
-enum-told c = search needs
-
 returns : tie.Need-returns
 unfolding walkAt
 returns c = refused-start _ _ _ (ap rankedAs (c .enum-told .given .1)) (c .before .before .rank .ensures)
-
-array-borrow-prefix-bytes : tie.Need-array-borrow-prefix-bytes
-array-borrow-prefix-bytes c = room _ _ _ (rw (ap rankedAs (c .before .answer .given .1)) at (c .before .before .before .rank .ensures))
 
 slice-aggregate-copy : tie.Need-slice-aggregate-copy
 slice-aggregate-copy c =
@@ -43,11 +31,11 @@ pub start-spec : {M : Type 1} → statement M
 start-spec =
     tie.close
     (tie.spec
-    rank-requires
-    enum-known-answer
-    enum-told
+    (λ c κs. search needs)
+    (λ c. search needs)
+    (λ c. search needs)
     returns
-    array-borrow-prefix-bytes
+    (λ c. room _ _ _ (rw (ap rankedAs (c .before .answer .given .1)) at (c .before .before .before .rank .ensures)))
     slice-aggregate-copy
     copy-requires
     returns-2)

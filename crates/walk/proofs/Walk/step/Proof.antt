@@ -10,12 +10,6 @@ use borrow.Author.Needs.{needs}
 use Rattle.walk.proofs.Walk.step.Statement.{statement}
 use Rattle.walk.proofs.Walk.step.Tie as tie
 
-missed-beyond-requires : tie.Need-missed-beyond-requires
-missed-beyond-requires c κs = search needs
-
-returns : tie.Need-returns
-returns c = handed-back _ _ _ (c .missed-beyond .ensures _ _ _ (c .before .if1 .taken))
-
 array-borrow-prefix-bytes : tie.Need-array-borrow-prefix-bytes
 array-borrow-prefix-bytes c =
     let w = c .before .before .before .args .self in
@@ -28,9 +22,6 @@ slice-aggregate-step-lent c =
     let h : length (w .bytes) ≡ longestObject = search needs in
     sym (length-take-le (w .len) (w .bytes) (omega (arith, h, c .before .if1 .left)))
 
-step-lent-requires : tie.Need-step-lent-requires
-step-lent-requires c κs = search needs
-
 returns-2 : tie.Need-returns-2
 returns-2 c =
     let w = c .before .before .before .before .before .before .args .self in
@@ -41,9 +32,9 @@ pub step-spec : {M : Type 1} → statement M
 step-spec =
     tie.close
     (tie.spec
-    missed-beyond-requires
-    returns
+    (λ c κs. search needs)
+    (λ c. handed-back _ _ _ (c .missed-beyond .ensures _ _ _ (c .before .if1 .taken)))
     array-borrow-prefix-bytes
     slice-aggregate-step-lent
-    step-lent-requires
+    (λ c κs. search needs)
     returns-2)

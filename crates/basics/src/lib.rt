@@ -1,0 +1,41 @@
+// Sums of bytes, which the counts, the kinds and the questions share.
+ghost use mathlib.Core.Path.{_≡_};
+ghost use Prim.Native.Nat.{_+_, _<_, _^_, min};
+ghost use Rattle.basics.specs.Sums.{total};
+
+pub fn wide(b: u8) -> u64
+    ensures { λ r. ⌜ r ≡ b ⌝ }
+{
+    b as u64
+}
+
+// The sum of bytes that are few or small.
+pub fn sum(bytes: &[u8]) -> u64
+    requires { ⌜ total (now bytes) < 2 ^ 64 ⌝ }
+    ensures { λ r. ⌜ r ≡ total (now (bytes .entry)) ⌝ }
+{
+    let mut s: u64 = 0;
+    let mut i = 0;
+    while i < bytes.len() {
+        s += wide(bytes[i]);
+        i += 1;
+    }
+    s
+}
+
+// The sum where it is at most the limit, and one more than the limit where it isn't: it stops at the first byte that leads past it.
+pub fn sum_to_limit(limit: u64, bytes: &[u8]) -> u64
+    requires { ⌜ limit + 256 < 2 ^ 64 ⌝ }
+    ensures { λ r. ⌜ r ≡ min (total (now (bytes .entry))) (limit + 1) ⌝ }
+{
+    let mut s: u64 = 0;
+    let mut i = 0;
+    while i < bytes.len() {
+        s += wide(bytes[i]);
+        if limit < s {
+            return limit + 1;
+        }
+        i += 1;
+    }
+    s
+}
