@@ -1,29 +1,26 @@
 -- The listing of anagrams is all anagrams in the order by the first place that differs, and has as many as the multinomial says.
 -- Assumes nothing.
-use mathlib.Core.Path.{_≡_, refl, sym, _∙_, ap}
+use mathlib.Core.Path.{_≡_, refl, sym, _∙_}
 use mathlib.Core.Bool.{true}
 use mathlib.Core.List.{List, [], _∷_}
 use Prim.Native.Nat.{ℕ, zero, suc}
 use native.Mathlib.Omega.{arith}
 use lib.Dec.{ltb}
 use lib.ListN.{length}
-use borrow.Author.Tests.{lt-ltb, ltb-true}
+use borrow.Author.Tests.{lt-ltb}
 use Rattle.basics.specs.Sums.{total}
 use Rattle.numbers.specs.Numbers.{multinomialOf, oneLess, lettersFrom}
 use Rattle.numbers.proofs.Laws.{total-less, over-letters, letter-left, letter-has, has-letter, one-empty}
 use Rattle.listings.specs.Bytes.{Bytes}
-use Rattle.listings.specs.Listings.{Ascending, none, more, StrictTotal, Listing}
-use Rattle.listings.proofs.ChoiceRules.{one-rule, Taken, choice-rule, counted-choice}
-use Rattle.listings.proofs.OrderFacts.{lex-strict, lex-less, lex-tie}
+use Rattle.listings.specs.Listings.{Ascending, none, more, Listing}
+use Rattle.listings.proofs.ChoiceRules.{counted-choice}
+use Rattle.listings.proofs.FirstLetters.{spelled}
 use Rattle.anagrams.specs.Objects.{isAnagram, anagramBefore}
 use Rattle.anagrams.specs.Listing.{words, anagrams}
 use Rattle.anagrams.proofs.Facts.{anagram-cases, first-off, without-first, empty-word}
 
 pub long : (cs : List ℕ) (x : Bytes) → isAnagram cs x ≡ true → length x ≡ total cs
 long cs x o = anagram-cases cs x o .0
-
-order : (cs : List ℕ) → StrictTotal (isAnagram cs) anagramBefore
-order cs = lex-strict (isAnagram cs) (total cs) (long cs)
 
 -- the letters that are left ascend, by what they are written as
 pub ascending-letters : (a : ℕ) (cs : List ℕ) → Ascending (λ i j. ltb (suc i) (suc j)) (lettersFrom a cs)
@@ -32,30 +29,19 @@ ascending-letters a [] = none
 ascending-letters a (zero ∷ cs) = ascending-letters (suc a) cs
 ascending-letters a (suc c ∷ cs) = more (λ y k. let (j, e, h) = letter-left (suc a) cs k in lt-ltb (suc a) (suc y) (omega arith)) (ascending-letters (suc a) cs)
 
--- the words of m letters, where the counts sum to m
+-- the words of m letters, where the counts sum to m: the state is the counts that are left
 listed : (m : ℕ) (cs : List ℕ) → total cs ≡ m → Listing (isAnagram cs) anagramBefore (words m cs)
 unfolding words
-listed zero cs s = one-rule (order cs) [] (empty-word cs ∙ rw s) alone
-  where
-    alone : (y : Bytes) → isAnagram cs y ≡ true → y ≡ []
-    alone [] o = refl
-    alone (a ∷ y) o = absurd (omega (arith, long cs (a ∷ y) o))
-listed (suc m) cs s = choice-rule _ _ (record {
-  objectOf = λ i. isAnagram (oneLess cs i);
-  ltOf = λ i. anagramBefore;
-  ltc = λ i j. ltb (suc i) (suc j);
-  order = order cs;
-  rising = ascending-letters 0 cs;
-  parts = λ i k. listed m (oneLess cs i) (omega (arith, total-less cs i (letter-has cs k)));
-  off = off;
-  on = λ i x k o. without-first cs i (suc i) x refl (letter-has cs k) ∙ o;
-  less = λ i j x y k l h o p. lex-less (suc i) (suc j) x y (ltb-true (suc i) (suc j) h);
-  tie = λ i x y k o p h. lex-tie (suc i) (suc i) x y refl h;
+listed = spelled {choices = λ m. lettersFrom 0} {letter = suc} {next = oneLess} (record {
+  none = λ cs. refl;
+  some = λ m cs. refl;
+  sized = λ m cs x s o. long cs x o ∙ s;
+  ends = λ cs s. empty-word cs ∙ rw s;
+  onward = λ m cs i s k. omega (arith, total-less cs i (letter-has cs k));
+  rising = λ m. ascending-letters 0;
+  off = λ m cs a x s o. let (i, e, h, rest) = first-off cs a x o in (i, sym e, has-letter cs i h, rest);
+  on = λ m cs i x s k o. without-first cs i (suc i) x refl (letter-has cs k) ∙ o;
 })
-  where
-    off : (y : Bytes) → isAnagram cs y ≡ true → Taken (lettersFrom 0 cs) (λ i x. suc i ∷ x) (λ i. isAnagram (oneLess cs i)) y
-    off [] o = absurd (omega (arith, long cs [] o))
-    off (a ∷ x) o = let (i, e, h, rest) = first-off cs a x o in record { choice = i; listed = has-letter cs i h; left = x; object = rest; whole = ap (λ b. b ∷ x) (sym e) }
 
 counted-words : (m : ℕ) (cs : List ℕ) → total cs ≡ m → length (words m cs) ≡ multinomialOf cs
 unfolding words

@@ -2,6 +2,7 @@
 pub mod AscendingRules
 pub mod ChoiceRules
 pub mod ChoicePlaces
+pub mod FirstLetters
 pub mod JoinedRule
 pub mod KeptRule
 pub mod LoehrRules
