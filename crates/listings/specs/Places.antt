@@ -1,7 +1,7 @@
 -- Where a thing stands in a list, what follows it, and how many come before it.
 -- Assumes nothing.
 use mathlib.Core.Path.{_≡_}
-use mathlib.Core.Bool.{Bool, true, false}
+use mathlib.Core.Bool.{Bool, cond}
 use mathlib.Core.Option.{some}
 use mathlib.Core.List.{List, [], _∷_}
 use Prim.Native.Nat.{ℕ, suc, _+_}
@@ -29,8 +29,7 @@ pub record Last {A : Type 0} (l : List A) (x : A) : Type 0 where
 
 -- 1 for a yes
 abbrev pub tick : Bool → ℕ
-tick true = 1
-tick false = 0
+tick b = cond b 1 0
 
 -- how many of the list come before x, by the order and not by the place (SCOPE 2.a)
 unfoldable pub countBefore : {A : Type 0} → (A → A → Bool) → A → List A → ℕ

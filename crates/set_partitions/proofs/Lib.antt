@@ -5,7 +5,6 @@ pub mod Laws
 pub mod Places
 pub mod Neighbours
 pub mod Ranks
-pub mod Unranks
 pub mod Testing
 pub mod KeyOrder
 pub mod KeyReading

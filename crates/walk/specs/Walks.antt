@@ -1,6 +1,6 @@
 -- A walk that knows its number (SCOPE 12): what it keeps, where it starts, and what each step answers and leaves.
 -- Assumes nothing.
-use mathlib.Core.Bool.{Bool, true, false}
+use mathlib.Core.Bool.{Bool, cond}
 use mathlib.Core.Option.{Option, none, some}
 use mathlib.Core.List.{List, [], _∷_, _++_}
 use Prim.Native.Nat.{ℕ, zero, suc, _-_}
@@ -123,8 +123,7 @@ walkedLent f w (h ∷ hs) = walkedLent f (stepKept (h .0) f (h .1) (length (w .b
 
 -- a step on, or one back (SCOPE 12.8)
 unfoldable pub wayOf : Bool → Way
-wayOf true = Forth
-wayOf false = Back
+wayOf v = cond v Forth Back
 
 -- a run: as many steps as there is room for their answers' codes; the walk that they leave, and the codes in front of what stood there (SCOPE 12.8)
 unfoldable pub runOf : Walk → Lent → List Bool → Bytes → Walk × Bytes

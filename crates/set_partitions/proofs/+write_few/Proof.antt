@@ -2,7 +2,7 @@
 -- Assumes nothing.
 use Prim.Native.Nat.{ℕ, _-_, _<_}
 use native.Mathlib.Omega.{arith}
-use Rattle.set_partitions.proofs.Unranks.{Put, ToWrite, block-there, joined-there, last-put, rest-below, written, alone-written}
+use Rattle.set_partitions.proofs.Ranks.{Put, ToWrite, block-there, joined-there, last-put, rest-below, written, alone-written}
 use borrow.Fn.Kinds.{In}
 use borrow.Fn.PlainCycle.{Measures, is, falls, and}
 use Rattle.set_partitions.proofs.write_few.Reads as write-few

@@ -9,8 +9,7 @@ use Rattle.basics.specs.Sums.{range}
 use Rattle.basics.proofs.Ranges.{take-range}
 use Rattle.stirlings.specs.inner.Band.{capacity}
 use Rattle.stirlings.proofs.Walk.{ones, whole}
-use Rattle.set_partitions.proofs.Ranks.{few-where-some}
-use Rattle.set_partitions.proofs.Unranks.{written-long, written-room}
+use Rattle.set_partitions.proofs.Ranks.{few-where-some, written-long, written-room}
 use borrow.Author.Needs.{needs}
 use Rattle.set_partitions.proofs.unrank.Statement.{statement}
 use Rattle.set_partitions.proofs.unrank.Tie as tie
