@@ -2,14 +2,18 @@
 -- Assumes nothing.
 use mathlib.Core.Path.{_≡_, refl, sym, _∙_, ap}
 use mathlib.Core.Bool.{Bool, true, false, _&&_, cond, and-false}
-use mathlib.Core.Logic.{_⊎_, inl, inr}
+use mathlib.Core.Logic.{_⊎_, inl, inr, ⊎-elim}
+use mathlib.Core.List.{[], _∷_}
 use Prim.Native.Nat.{ℕ, _≤_, _<_, _^_}
 use native.Mathlib.Omega.{arith}
 use lib.Dec.{leb, ltb}
 use borrow.Author.Tests.{lt-ltb, le-ltb, ltb-true, ltb-false, le-leb, lt-leb}
+use types.Run.{OneOf}
+use denote.Enum.Declared.{tagOf}
 use Rattle.counting.specs.declared.Count.{Count}
 use Rattle.counting.specs.declared.Count.the-variants.{Exactly, TooLarge, Outside}
 use Rattle.counting.specs.Answers.{fits, ifFits}
+use Rattle.counting.proofs.Count.{the-type}
 
 pub fits-small : (v : ℕ) → v < 2 ^ 64 → fits v ≡ Exactly v
 unfolding fits
@@ -57,6 +61,10 @@ answered v = go (ltb v (2 ^ 64)) refl
     go : (t : Bool) → ltb v (2 ^ 64) ≡ t → ((v < 2 ^ 64) × (fits v ≡ Exactly v)) ⊎ ((2 ^ 64 ≤ v) × (fits v ≡ TooLarge))
     go true e = let h = ltb-true v (2 ^ 64) e in inl (h, fits-small v h)
     go false e = let h = ltb-false v (2 ^ 64) e in inr (h, fits-large v h)
+
+-- an answer that is not exact tells that the count is too large
+pub not-exact : (v : ℕ) {r : Count} → r ≡ fits v → OneOf (1 ∷ 2 ∷ []) (tagOf the-type r) → 2 ^ 64 ≤ v
+not-exact v e keys = ⊎-elim (λ s. ⊎-elim (λ z. omega arith) (λ z. omega arith) (rw (e ∙ s .1) at keys)) (λ l. l .0) (answered v)
 
 pub within-in : (t : Bool) (a : Count) → t ≡ true → cond t a Outside ≡ a
 within-in t a e = rw e

@@ -1,30 +1,20 @@
 -- From the answer of the crate `counting` to the family's count, and to questions 5 and 8.
 -- Assumes nothing.
 use mathlib.Core.Path.{_≡_, sym, ap, _∙_}
-use mathlib.Core.Logic.{⊎-elim}
 use mathlib.Core.Bool.{Bool, true, cond}
 use mathlib.Core.Option.{none, some}
-use mathlib.Core.List.{[], _∷_}
 use Prim.Native.Nat.{ℕ, _≤_, _<_, _^_}
-use native.Mathlib.Omega.{arith}
 use borrow.Author.Tests.{lt-ltb, le-ltb}
-use types.Run.{OneOf}
-use denote.Enum.Declared.{tagOf}
 use Rattle.counting.specs.declared.Count.{Count}
 use Rattle.counting.specs.declared.Count.the-variants.{Outside}
 use Rattle.counting.specs.Answers.{fits}
-use Rattle.counting.proofs.Count.{the-type}
-use Rattle.counting.proofs.Answers.{answered, within-in}
+use Rattle.counting.proofs.Answers.{within-in}
 use Rattle.listings.specs.Calls.{firstNo}
 use Rattle.families.specs.Questions.{rankRefusal}
 
 -- the answer for arguments within the limits is the answer for the count
 pub answer-within : {t : Bool} {v w : ℕ} {r : Count} → r ≡ cond t (fits v) Outside → t ≡ true → w ≡ v → r ≡ fits w
 answer-within {t} {v} e inside same = e ∙ within-in t (fits v) inside ∙ sym (ap fits same)
-
--- an answer that is not exact tells that the count is too large
-pub not-exact : (v : ℕ) {r : Count} → r ≡ fits v → OneOf (1 ∷ 2 ∷ []) (tagOf the-type r) → 2 ^ 64 ≤ v
-not-exact v e keys = ⊎-elim (λ s. ⊎-elim (λ z. omega arith) (λ z. omega arith) (rw (e ∙ s .1) at keys)) (λ l. l .0) (answered v)
 
 -- questions 5 and 8 for a rank and a count
 

@@ -1,6 +1,6 @@
 -- Words listed by their first letter, over states: which letters may stand first, and what state each leaves. Such a list is the listing in the
 -- order by the first place that differs. Serves every kind in dictionary order. Assumes nothing.
-use mathlib.Core.Path.{_≡_, refl, sym, ap, subst}
+use mathlib.Core.Path.{_≡_, refl, ap}
 use mathlib.Core.Bool.{Bool, true}
 use mathlib.Core.List.{List, [], _∷_, List·Memᴰ}
 use Prim.Native.Nat.{ℕ, zero, suc}

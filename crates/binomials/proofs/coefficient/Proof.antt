@@ -20,26 +20,26 @@ loop-holds : tie.Need-loop-holds Inv-loop μ-loop
 unfolding oddBelow twosBelow
 loop-holds c = (omega arith, (refl, refl))
 
+-- in a turn, once the parts are known
+module _ (c : tie.After-parts-of Inv-loop μ-loop) where
+  abbrev start : tie.Start Inv-loop μ-loop
+  start = c .before .before .before .before
+
+  told : Asked (start .args .n) (start .args .k) (c .before .before .loop .i) (c .parts-of .result)
+  told = asked _ _ _ (c .before .number-at .ensures) (c .parts-of .ensures)
+
+  more-twos : c .before .before .loop .twos + c .parts-of .result .2 ≡ twosBelow (start .args .n) (start .args .k) (c .before .before .loop .i + 1)
+  more-twos = twos-step _ _ _ told (c .before .before .loop .inv .1 .1)
+
 -- in the last turn
-at-last : (c : tie.After-struct-known Inv-loop μ-loop) → Last (c .before .before .before .before .before .before .before .args .n) (c .before .before .before .before .before .before .before .args .k) (c .before .before .before .before .before .loop .odd) (c .before .before .before .before .before .loop .twos) (c .before .before .before .parts-of .result)
+at-last : (c : tie.After-struct-known Inv-loop μ-loop) → let a = c .before .before .before in let l = a .before .before .loop in Last (start a .args .n) (start a .args .k) (l .odd) (l .twos) (a .parts-of .result)
 at-last c =
-    let n = c .before .before .before .before .before .before .before .args .n in
-    let k = c .before .before .before .before .before .before .before .args .k in
-    let l = c .before .before .before .before .before .loop in
-    last n k (l .i) (omega arith) (omega arith) (c .before .before .before .before .before .before .before .pre .1) (c .before .before .if2 .taken) (asked n k (l .i) (c .before .before .before .before .number-at .ensures) (c .before .before .before .parts-of .ensures)) (l .inv .1 .0) (l .inv .1 .1)
+    let a = c .before .before .before in let l = a .before .before .loop in
+    last _ _ (l .i) (omega arith) (omega arith) (start a .pre .1) (c .before .before .if2 .taken) (told a) (l .inv .1 .0) (l .inv .1 .1)
 
 -- in the others
-at-turn : (c : tie.After-struct-known2 Inv-loop μ-loop) → Asked (c .before .before .before .before .before .before .before .args .n) (c .before .before .before .before .before .before .before .args .k) (c .before .before .before .before .before .loop .i) (c .before .before .before .parts-of .result)
-at-turn c = asked (c .before .before .before .before .before .before .before .args .n) (c .before .before .before .before .before .before .before .args .k) (c .before .before .before .before .before .loop .i) (c .before .before .before .before .number-at .ensures) (c .before .before .before .parts-of .ensures)
-
-more-twos : (c : tie.After-struct-known2 Inv-loop μ-loop) → c .before .before .before .before .before .loop .twos + c .before .before .before .parts-of .result .2 ≡ twosBelow (c .before .before .before .before .before .before .before .args .n) (c .before .before .before .before .before .before .before .args .k) (c .before .before .before .before .before .loop .i + 1)
-more-twos c = twos-step (c .before .before .before .before .before .before .before .args .n) (c .before .before .before .before .before .before .before .args .k) (c .before .before .before .before .before .loop .i) (at-turn c) (c .before .before .before .before .before .loop .inv .1 .1)
-
-add-twos : tie.Need-add-twos Inv-loop μ-loop
-add-twos c = record { fits = omega (arith, twos-fit (c .before .before .before .before .before .before .before .args .n) (c .before .before .before .before .before .before .before .args .k) (c .before .before .before .before .before .loop .i) (c .before .before .before .before .before .loop .twos) (c .before .before .before .parts-of .result .2) (omega arith) (omega arith) (omega arith) (more-twos c)) }
-
 loop-again : tie.Need-loop-again Inv-loop μ-loop
-loop-again c = (omega arith, (odd-step (c .before .before .before .before .before .before .before .args .n) (c .before .before .before .before .before .before .before .args .k) (c .before .before .before .before .before .loop .i) (at-turn c) (c .before .before .before .before .before .loop .inv .1 .0) (c .before .low2 .ensures), more-twos c))
+loop-again c = let a = c .before .before .before in (omega arith, (odd-step _ _ _ (told a) (a .before .before .loop .inv .1 .0) (c .before .low2 .ensures), more-twos a))
 
 pub coefficient-spec : {M : Type 1} → statement M
 coefficient-spec =
@@ -56,7 +56,7 @@ coefficient-spec =
     (λ c. at-last c .few)
     (λ c. at-last c .made (c .before .low .ensures))
     (λ c κs. search needs)
-    add-twos
+    (λ c. let a = c .before .before .before in record { fits = omega (arith, twos-fit (start a .args .n) (start a .args .k) _ _ _ (omega arith) (omega arith) (omega arith) (more-twos a)) })
     (λ c. search needs)
     (λ c. search needs)
     loop-again)

@@ -35,16 +35,14 @@ unfolding column
 put-column-returns t c = (omega arith, rw (c .if1 .taken) (wrote-nothing (c .before .before .args .out .now) (c .before .before .args .at)))
 
 put-column-returns-2 : (t : ℕ) → put-column-lts.Need-returns-2 (claims t) (put-column-at t) put-column.Post
-put-column-returns-2 t c = (
-  omega arith,
-  rw (column-digit (c .before .before .before .before .before .before .before .before .before .before .before .args .width) (c .before .before .before .before .before .before .before .before .before .before .before .args .n) (c .before .before .before .before .before .before .before .before .before .if1 .left) (c .before .before .before .before .before .before .before .before .if2 .taken)) (then (c .before .before .before .before .before .before .put-blanks .ensures .1) (c .before .before .put-byte .ensures .1)),
-)
+put-column-returns-2 t c =
+    let p = c .before .before .before .before .before .before in let e = p .before .before in let a = e .before .before .before .args in
+    (omega arith, rw (column-digit (a .width) (a .n) (e .before .if1 .left) (e .if2 .taken)) (then (p .put-blanks .ensures .1) (c .before .before .put-byte .ensures .1)))
 
 put-column-returns-3 : (t : ℕ) → put-column-lts.Need-returns-3 (claims t) (put-column-at t) put-column.Post
-put-column-returns-3 t c = (
-  omega arith,
-  rw (column-digits (c .before .before .before .before .before .before .before .before .before .before .before .args .width) (c .before .before .before .before .before .before .before .before .before .before .before .args .n) (c .before .before .before .before .before .before .before .before .before .if1 .left) (c .before .before .before .before .before .before .before .before .if2 .left)) (then (c .before .before .before .before .before .before .put-column .ensures .1) (c .before .before .put-byte2 .ensures .1)),
-)
+put-column-returns-3 t c =
+    let p = c .before .before .before .before .before .before in let e = p .before .before in let a = e .before .before .before .args in
+    (omega arith, rw (column-digits (a .width) (a .n) (e .before .if1 .left) (e .if2 .left)) (then (p .put-column .ensures .1) (c .before .before .put-byte2 .ensures .1)))
 
 pub +put-column-spec : {M : Type 1} → statement M
 +put-column-spec = close μ-put-column λ t. put-column-lts.spec (claims t) (put-column-at t) put-column.Post

@@ -5,10 +5,9 @@ use mathlib.Core.List.{[]}
 use Prim.Native.Nat.{ℕ}
 use borrow.Author.Needs.{needs}
 use Rattle.listings.specs.Calls.{COUNT, COUNTED, Said}
-use Rattle.counting.proofs.Answers.{exactly, exactly-below}
+use Rattle.counting.proofs.Answers.{exactly, exactly-below, not-exact}
 use Rattle.families.proofs.FamilyFacts.{allowed-asked}
 use Rattle.families.proofs.Verdicts.{verdict, refused-early}
-use Rattle.families.proofs.CountAnswers.{not-exact}
 use Rattle.families.proofs.Responses.{refused, count-said, count-refused}
 use Rattle.families.proofs.count.Statement.{statement}
 use Rattle.families.proofs.count.Tie as tie

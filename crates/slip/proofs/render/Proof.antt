@@ -10,20 +10,19 @@ use borrow.Author.Needs.{needs}
 use Rattle.slip.proofs.render.Statement.{statement}
 use Rattle.slip.proofs.render.Tie as tie
 
+-- where the slip has been parsed
+abbrev start : tie.After-parse → tie.Start
+start c = c .before .before .before .before .before .before
+
 returns-2 : tie.Need-returns-2
 unfolding parsedAs textOf
-returns-2 c =
-    let parse = c .before .before .before .before .before .before .before .parse in
-    rendered (c .before .before .before .before .before .before .before .before .before .before .before .before .before .args .input .now) (omega arith) (parse .ensures .1 ∙ ap (λ p. parsedAs p (parse .last .1 .0)) (c .before .before .before .before .enum-told .given .1)) (c .before .before .put-refused .ensures)
-
-slice-aggregate-only-counts : tie.Need-slice-aggregate-only-counts
-slice-aggregate-only-counts c = sym (length-take-le (c .before .before .f .given .0 .1 .0) (c .before .before .before .before .before .parse .last .1 .0) (omega (arith, c .before .before .before .before .before .parse .ensures .0 _ _ (c .before .before .f .given .1))))
+returns-2 c = let p = c .before .before .before .before .before .before .before in rendered (start p .args .input .now) (omega arith) (p .parse .ensures .1 ∙ ap (λ r. parsedAs r (p .parse .last .1 .0)) (c .before .before .before .before .enum-told .given .1)) (c .before .before .put-refused .ensures)
 
 returns-3 : tie.Need-returns-3
 unfolding parsedAs textOf
 returns-3 c =
-    let parse = c .before .before .before .before .before .before .before .before .before .before .parse in
-    rendered (c .before .before .before .before .before .before .before .before .before .before .before .before .before .before .before .before .args .input .now) (omega arith) (parse .ensures .1 ∙ ap (λ p. parsedAs p (parse .last .1 .0)) (c .before .before .before .before .before .before .before .f .given .1)) (rw (c .before .before .before .before .only-counts .ensures) at (c .before .before .put-text .ensures))
+    let l = c .before .before .before .before in let f = l .before .before .before in let p = f .before .before .before in
+    rendered (start p .args .input .now) (omega arith) (p .parse .ensures .1 ∙ ap (λ r. parsedAs r (p .parse .last .1 .0)) (f .f .given .1)) (rw (l .only-counts .ensures) at (c .before .before .put-text .ensures))
 
 pub render-spec : {M : Type 1} → statement M
 render-spec =
@@ -39,7 +38,7 @@ render-spec =
     (λ c. search needs)
     returns-2
     (λ c. omega (arith, c .before .before .before .before .parse .ensures .0 _ _ (c .before .f .given .1)))
-    slice-aggregate-only-counts
+    (λ c. let p = c .before .before .before .before .before .parse in sym (length-take-le (c .before .before .f .given .0 .1 .0) (p .last .1 .0) (omega (arith, p .ensures .0 _ _ (c .before .before .f .given .1)))))
     (λ c κs. search needs)
     (λ c κs. search needs)
     (λ c. search needs)

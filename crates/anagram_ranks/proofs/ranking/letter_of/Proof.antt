@@ -20,21 +20,21 @@ abbrev μ-loop : tie.MeasureT-loop
 some : (c : tie.Start Inv-loop μ-loop) → 0 < length (c .args .left .now)
 some c = let a = c .args in letters-behind (a .left .now) 0 (a .words) (a .m) (a .rank) (omega arith) (omega arith) (start-le (a .left .now) _ _ _) (omega arith)
 
--- the words that start with letter a or an earlier one
-through : (c : tie.After-share Inv-loop μ-loop) → let a = c .before .before .before .before .before .args in c .share .result ≡ a .words * total (take (c .before .loop .a + 1) (a .left .now)) / a .m
-through c = let a = c .before .before .before .before .before .args in c .share .ensures ∙ ap (λ (n : ℕ). a .words * n / a .m) (c .before .loop .inv .1 .0)
+abbrev start : tie.After-share Inv-loop μ-loop → tie.Start Inv-loop μ-loop
+start c = c .before .before .before .before .before
 
--- where they fit into the rank, there is one more letter
-more : (c : tie.Then1 Inv-loop μ-loop) → c .before .before .loop .a + 1 < length (c .before .before .before .before .before .before .args .left .now)
-more c = let a = c .before .before .before .before .before .before .args in letters-behind (a .left .now) _ (a .words) (a .m) (a .rank) (omega arith) (omega arith) (rw (through (c .before)) at (c .if1 .taken)) (omega arith)
+-- the words that start with letter a or an earlier one
+through : (c : tie.After-share Inv-loop μ-loop) → let a = start c .args in c .share .result ≡ a .words * total (take (c .before .loop .a + 1) (a .left .now)) / a .m
+through c = let a = start c .args in c .share .ensures ∙ ap (λ (n : ℕ). a .words * n / a .m) (c .before .loop .inv .1 .0)
+
+-- where they fit into the rank, there is one more letter, whose words are counted with it
+more : (c : tie.Then1 Inv-loop μ-loop) → let l = start (c .before) .args .left .now in let a = c .before .before .loop .a + 1 in (a < length l) × (total (take (a + 1) l) ≡ total (take a l) + getD l a 0)
+more c = let a = start (c .before) .args in
+    let h = letters-behind (a .left .now) (c .before .before .loop .a + 1) (a .words) (a .m) (a .rank) (omega arith) (omega arith) (rw (through (c .before)) at (c .if1 .taken)) (omega arith) in (h, total-take-more _ _ h)
 
 loop-holds : tie.Need-loop-holds Inv-loop μ-loop
 unfolding total
-loop-holds c = let l = c .before .before .before .args .left .now in (some (c .before .before .before), (omega (arith, total-take-more l 0 (some (c .before .before .before))), start-le l _ _ _))
-
--- whose words are counted with it
-next : (c : tie.Then1 Inv-loop μ-loop) → let l = c .before .before .before .before .before .before .args .left .now in let a = c .before .before .loop .a + 1 in total (take (a + 1) l) ≡ total (take a l) + getD l a 0
-next c = total-take-more _ _ (more c)
+loop-holds c = let s = c .before .before .before in let l = s .args .left .now in (some s, (omega (arith, total-take-more l 0 (some s)), start-le l _ _ _))
 
 pub letter-of-spec : {M : Type 1} → statement M
 letter-of-spec =
@@ -47,9 +47,9 @@ letter-of-spec =
     loop-holds
     (λ c κs. omega (arith, total-take-le (c .before .before .before .before .args .left .now) (c .loop .a + 1)))
     (λ c. omega arith)
-    (λ c. more (c .before))
+    (λ c. more (c .before) .0)
     (λ c κs. tt)
-    (λ c. omega (arith, next (c .before .before), total-take-le (c .before .before .before .before .before .before .before .before .args .left .now) (c .before .before .before .before .loop .a + 1 + 1)))
-    (λ c. omega (arith, more (c .before .before)))
-    (λ c. omega (arith, more (c .before .before), next (c .before .before), through (c .before .before .before)))
+    (λ c. let e = c .before .before in omega (arith, more e .1, total-take-le (start (e .before) .args .left .now) (e .before .before .loop .a + 1 + 1)))
+    (λ c. omega (arith, more (c .before .before) .0))
+    (λ c. let e = c .before .before in omega (arith, more e .0, more e .1, through (e .before)))
     (λ c. omega (arith, through (c .before))))

@@ -21,23 +21,26 @@ Inv-loop left₀ all object words₀ rank₀ i₀ left words rank i = (i ≤ len
 abbrev μ-loop : tie.MeasureT-loop
 μ-loop left₀ all object words₀ rank₀ i₀ left words rank i = length object - i
 
--- the letter at place i
-here : (c : tie.In-loop Inv-loop μ-loop) → Turn (c .before .loop .left) (c .before .before .before .before .args .object .now) (c .before .loop .i)
-here c = let l = c .before .loop in turn (l .left) _ (l .i) (c .loop-test .taken) (l .inv .1 .1 .0)
+-- in a turn
+module _ (c : tie.In-loop Inv-loop μ-loop) where
+  abbrev start : tie.Start Inv-loop μ-loop
+  start = c .before .before .before .before
 
-short : (c : tie.In-loop Inv-loop μ-loop) → length (c .before .before .before .before .args .object .now) ≤ places
-short c = let s = c .before .before .before .before in omega (arith, long (s .args .left .now) (s .args .object .now) (s .pre .1 .0))
+  -- the letter at place i
+  here : Turn (c .before .loop .left) (start .args .object .now) (c .before .loop .i)
+  here = let l = c .before .loop in turn (l .left) _ (l .i) (c .loop-test .taken) (l .inv .1 .1 .0)
+
+  short : length (start .args .object .now) ≤ places
+  short = omega (arith, long (start .args .left .now) (start .args .object .now) (start .pre .1 .0))
 
 -- the front with this letter, once the words in front of it are counted
-read-on : (c : tie.After-earlier Inv-loop μ-loop) {left : List ℕ} → let l = c .before .before .before .before .loop in let a = c .before .before .before .before .before .before .before .args in
-    left ≡ oneLess (l .left) (getD (a .object .now) (l .i) 0 - 1) → Front (a .left .now) (take (l .i + 1) (a .object .now)) (l .rank + c .earlier .result) left
-read-on c e =
-    let l = c .before .before .before .before .loop in
-    let t = here (c .before .before .before) in
-    front-read _ (t .left) (l .inv .1 .0) (t .size) (c .earlier .ensures) e _ (l .i) (omega arith) (omega (arith, t .some)) (l .inv .1 .1 .1)
+read-on : (c : tie.After-earlier Inv-loop μ-loop) {left : List ℕ} → let e = c .before .before .before in let l = e .before .loop in let a = start e .args in left ≡ oneLess (l .left) (getD (a .object .now) (l .i) 0 - 1) → Front (a .left .now) (take (l .i + 1) (a .object .now)) (l .rank + c .earlier .result) left
+read-on c less =
+    let e = c .before .before .before in let l = e .before .loop in let t = here e in
+    front-read _ (t .left) (l .inv .1 .0) (t .size) (c .earlier .ensures) less _ (l .i) (omega arith) (omega (arith, t .some)) (l .inv .1 .1 .1)
 
 loop-again : tie.Need-loop-again Inv-loop μ-loop
-loop-again c = let e = c .before .before .spend .ensures in (omega arith, (e .1, (rw (e .0) (here (c .before .before .before .before .before .before .before) .rest), read-on (c .before .before .before .before) (e .0))))
+loop-again c = let a = c .before .before .before .before in let s = c .before .before .spend .ensures in (omega arith, (s .1, (rw (s .0) (here (a .before .before .before) .rest), read-on a (s .0))))
 
 pub rank-of-spec : {M : Type 1} → statement M
 rank-of-spec =
@@ -50,14 +53,11 @@ rank-of-spec =
     (λ c. omega (arith, c .shared-slice-known2 .given (c .before .before .loop .i)))
     (λ c. here (c .before) .some)
     (λ c. omega arith)
-    (λ c κs. omega (arith, here (c .before .before), short (c .before .before)))
-    (λ c. omega (arith, front-fits (read-on c refl), c .before .before .before .before .before .before .before .pre .1 .1))
-    (λ c κs. omega (arith, here (c .before .before .before .before), short (c .before .before .before .before)))
+    (λ c κs. let e = c .before .before in omega (arith, here e, short e))
+    (λ c. omega (arith, front-fits (read-on c refl), start (c .before .before .before) .pre .1 .1))
+    (λ c κs. let e = c .before .before .before .before in omega (arith, here e, short e))
     (λ c. omega arith)
     (λ c. omega arith)
     loop-again
     (λ c. c .before .loop .inv .1 .1 .1 .kept)
-    (λ c.
-    let l = c .before .loop in
-    let a = c .before .before .before .before .args in
-    sym (place-is-rank (lists (a .left .now)) (l .rank) (whole-word (a .object .now) (l .i) (omega arith) (omega (arith, size-left (l .left) (a .object .now) (l .i) (l .inv .1 .1 .0))) (l .inv .1 .1 .1)))))
+    (λ c. let l = c .before .loop in let a = c .before .before .before .before .args in sym (place-is-rank (lists (a .left .now)) (l .rank) (whole-word (a .object .now) (l .i) (omega arith) (omega (arith, size-left (l .left) (a .object .now) (l .i) (l .inv .1 .1 .0))) (l .inv .1 .1 .1)))))

@@ -1,7 +1,8 @@
 -- `columns::fields::digits` meets its contract: after i turns v is the number of the first i digits, and below 10 ^ i.
 -- Assumes nothing.
 use mathlib.Core.Path.{_≡_, sym, _∙_, ap}
-use Prim.Native.Nat.{ℕ, _+_, _-_, _^_, _≤_, _<_}
+use mathlib.Core.List.{_∷_}
+use Prim.Native.Nat.{_+_, _-_, _^_, _≤_, _<_}
 use native.Mathlib.Omega.{arith}
 use native.Mathlib.Nat.{pow-le-pow-right}
 use native.Mathlib.Numerals.{add-one}
@@ -19,34 +20,29 @@ Inv-loop part v₀ i₀ v i = (i ≤ length part) × ((v < 10 ^ i) × (digits v 
 abbrev μ-loop : tie.MeasureT-loop
 μ-loop part v₀ i₀ v i = length part - i
 
+-- in a turn: the digit at i is read next
+next : (c : tie.In-loop Inv-loop μ-loop) → let l = c .before .loop in let x = c .before .before .args .part .now in digits 0 x ≡ digits (l .v) (getD x (l .i) 0 ∷ drop (l .i + 1) x)
+next c = let l = c .before .loop in sym (l .inv .1 .1) ∙ digits-at (c .before .before .args .part .now) (l .i) (l .v) (c .loop-test .taken)
+
+abbrev turn : tie.Else2 Inv-loop μ-loop → tie.In-loop Inv-loop μ-loop
+turn c = c .before .before .before
+
 -- the number so far has at most three digits where one more is read
-small : (i : ℕ) → i ≤ 3 → 10 ^ i ≤ 1000
-small i h = pow-le-pow-right {n = 10} (omega arith) h
+small : (c : tie.Else2 Inv-loop μ-loop) → 10 ^ (turn c .before .loop .i) ≤ 1000
+small c = let h : turn c .before .loop .i ≤ 3 = omega arith in pow-le-pow-right {n = 10} (omega arith) h
 
 returns : tie.Need-returns Inv-loop μ-loop
 unfolding valueAs
-returns c =
-    let x = c .before .before .before .before .args .part .now in
-    let l = c .before .before .before .loop in
-    sym (digits-at x (l .i) (l .v) (c .before .before .loop-test .taken) ∙ digit-low (l .v) (getD x (l .i) 0) (drop (l .i + 1) x) (c .if1 .taken)) ∙ l .inv .1 .1
+returns c = sym (next (c .before .before) ∙ digit-low _ _ _ (c .if1 .taken))
 
 returns-2 : tie.Need-returns-2 Inv-loop μ-loop
 unfolding valueAs
-returns-2 c =
-    let x = c .before .before .before .before .before .args .part .now in
-    let l = c .before .before .before .before .loop in
-    sym (digits-at x (l .i) (l .v) (c .before .before .before .loop-test .taken) ∙ digit-high (l .v) (getD x (l .i) 0) (drop (l .i + 1) x) (c .if2 .taken)) ∙ l .inv .1 .1
+returns-2 c = sym (next (c .before .before .before) ∙ digit-high _ _ _ (c .if2 .taken))
 
 loop-again : tie.Need-loop-again Inv-loop μ-loop
 loop-again c =
-    let x = c .before .before .before .before .before .args .part .now in
-    let l = c .before .before .before .before .loop in (
-      omega arith,
-      (
-        rw add-one (grown (l .v) (getD x (l .i) 0) (l .i) (l .inv .1 .0) (c .if2 .left)),
-        sym (digits-at x (l .i) (l .v) (c .before .before .before .loop-test .taken) ∙ digit-read (l .v) (getD x (l .i) 0) (drop (l .i + 1) x) (c .before .if1 .left) (c .if2 .left)) ∙ l .inv .1 .1,
-      ),
-    )
+    let l = turn c .before .loop in
+    (omega arith, (rw add-one (grown (l .v) _ (l .i) (l .inv .1 .0) (c .if2 .left)), sym (next (turn c) ∙ digit-read _ _ _ (c .before .if1 .left) (c .if2 .left))))
 
 returns-3 : tie.Need-returns-3 Inv-loop μ-loop
 unfolding valueAs digits
@@ -65,8 +61,8 @@ digits-spec =
     (λ c. omega (arith, c .shared-slice-known .given (c .before .before .loop .i)))
     returns
     returns-2
-    (λ c. omega (arith, small (c .before .before .before .before .loop .i) (omega arith)))
-    (λ c. omega (arith, small (c .before .before .before .before .loop .i) (omega arith)))
+    (λ c. omega (arith, small c))
+    (λ c. omega (arith, small c))
     (λ c. search needs)
     (λ c. search needs)
     loop-again

@@ -34,65 +34,64 @@ abbrev write-word-below : ℕ → In 1 write-word-kinds.ps
 write-word-below t =
     and 1 write-word-kinds.ps (falls 1 write-word-kinds.ps _<_ μ-write-word t) write-word.Pre
 
-abbrev write-word-calls : ℕ → write-word-lts.Claims
-write-word-calls t = (inside-size-reads.Asked, inside-size-reads.Learnt, shorter-insides-reads.Asked, shorter-insides-reads.Learnt, ways-reads.Asked, ways-reads.Learnt, write-word-below t, write-word.Post)
+abbrev claims : ℕ → write-word-lts.Claims
+claims t = (inside-size-reads.Asked, inside-size-reads.Learnt, shorter-insides-reads.Asked, shorter-insides-reads.Learnt, ways-reads.Asked, ways-reads.Learnt, write-word-below t, write-word.Post)
 
 module _ (t : ℕ) where
-  -- the places: the rank is known in its parts; the inside is written
+  -- the rank is known in its parts
+  module _ (c : write-word-lts.After-ways (claims t) (write-word-at t) write-word.Post) where
+    abbrev start : write-word-lts.Start (claims t) (write-word-at t) write-word.Post
+    start = c .before .before .before .before .before
 
-  abbrev Counted : Type 0
-  Counted = write-word-lts.After-ways (write-word-calls t) (write-word-at t) write-word.Post
+    abbrev bytes : Bytes
+    bytes = start .args .object .now
 
-  abbrev Inside : Type 0
-  Inside = write-word-lts.After-write-word (write-word-calls t) (write-word-at t) write-word.Post
+    abbrev closeAt : ℕ
+    closeAt = 2 * c .before .before .inside-size .result + 1
 
-  abbrev bytes : Counted → Bytes
-  bytes c = c .before .before .before .before .before .args .object .now
+    fair : Shared (start .args .n - 1) (c .before .before .inside-size .result) (start .args .rank) (c .before .shorter-insides .result) (c .ways .result)
+    fair = shared (c .before .before .inside-size .ensures .1) (c .before .before .inside-size .ensures .2) (c .before .shorter-insides .ensures) (c .ways .ensures)
 
-  abbrev closeAt : Counted → ℕ
-  closeAt c = 2 * c .before .before .inside-size .result + 1
+    -- the 0 that closes the inside stands within the slice
+    closes : closeAt < length bytes
+    closes = omega arith
 
-  fair : (c : Counted) → Shared (c .before .before .before .before .before .args .n - 1) (c .before .before .inside-size .result) (c .before .before .before .before .before .args .rank) (c .before .shorter-insides .result) (c .ways .result)
-  fair c = shared (c .before .before .inside-size .ensures .1) (c .before .before .inside-size .ensures .2) (c .before .shorter-insides .ensures) (c .ways .ensures)
+    -- fewer branches have a number of words that fits, too
+    fits : (j : ℕ) → j ≤ start .args .n → catalanOf j < 2 ^ 64
+    fits j h = lt-of-le-of-lt (catalan-mono h) (start .pre .1 .1 .0)
 
-  -- the 0 that closes the inside stands within the slice
-  closes : (c : Counted) → closeAt c < length (bytes c)
-  closes c = omega arith
+  -- the inside is written
+  inside : (c : write-word-lts.After-write-word (claims t) (write-word-at t) write-word.Post) → let e = c .before .before in Laid (bytes e) (closeAt e) (c .write-word .last .1 .1 .0)
+  inside c = let e = c .before .before in laid (bytes e) (c .write-word .last .1 .1 .0) (closeAt e) (omega arith) (closes e) (c .write-word .kept .1 .1 .0)
 
-  -- fewer branches have a number of words that fits, too
-  fits : (c : Counted) (j : ℕ) → j ≤ c .before .before .before .before .before .args .n → catalanOf j < 2 ^ 64
-  fits c j h = lt-of-le-of-lt (catalan-mono h) (c .before .before .before .before .before .pre .1 .1 .0)
-
-  inside : (c : Inside) → Laid (bytes (c .before .before)) (closeAt (c .before .before)) (c .write-word .last .1 .1 .0)
-  inside c = laid (bytes (c .before .before)) (c .write-word .last .1 .1 .0) (closeAt (c .before .before)) (omega arith) (closes (c .before .before)) (c .write-word .kept .1 .1 .0)
-
-  returns : write-word-lts.Need-returns (write-word-calls t) (write-word-at t) write-word.Post
+  returns : write-word-lts.Need-returns (claims t) (write-word-at t) write-word.Post
   returns c =
-      let zeroth : c .before .before .args .rank ≡ 0 = omega (arith, ap catalanOf (c .if1 .taken), catalan-zero) in
-      subst (At (dyckWords (c .before .before .args .n)) (c .before .before .args .object .now)) (sym zeroth) (empty-at (c .if1 .taken) (c .before .before .pre .1 .0))
+      let s = c .before .before in let zeroth : s .args .rank ≡ 0 = omega (arith, ap catalanOf (c .if1 .taken), catalan-zero) in
+      subst (At (dyckWords (s .args .n)) (s .args .object .now)) (sym zeroth) (empty-at (c .if1 .taken) (s .pre .1 .0))
 
-  inside-size-requires : write-word-lts.Need-inside-size-requires (write-word-calls t) (write-word-at t) write-word.Post
+  inside-size-requires : write-word-lts.Need-inside-size-requires (claims t) (write-word-at t) write-word.Post
   inside-size-requires c κs =
-      let whole : suc (c .before .before .args .n - 1) ≡ c .before .before .args .n = omega arith in
-      (rw whole (c .before .before .pre .1 .1 .0), rw whole (c .before .before .pre .1 .1 .1))
+      let s = c .before .before in let whole : suc (s .args .n - 1) ≡ s .args .n = omega arith in
+      (rw whole (s .pre .1 .1 .0), rw whole (s .pre .1 .1 .1))
 
-  shorter-insides-requires : write-word-lts.Need-shorter-insides-requires (write-word-calls t) (write-word-at t) write-word.Post
+  shorter-insides-requires : write-word-lts.Need-shorter-insides-requires (claims t) (write-word-at t) write-word.Post
   shorter-insides-requires c κs = (omega arith, lt-of-le-of-lt (catalan-mono (omega arith)) (c .before .before .before .pre .1 .1 .0))
 
-  write-word-requires : write-word-lts.Need-write-word-requires (write-word-calls t) (write-word-at t) write-word.Post
-  write-word-requires c κs = (omega arith, (omega (arith, inside-length (bytes (c .before)) (closeAt (c .before)) (closes (c .before))), (fits (c .before) _ (omega arith), fair (c .before) .inside)))
+  write-word-requires : write-word-lts.Need-write-word-requires (claims t) (write-word-at t) write-word.Post
+  write-word-requires c κs = let e = c .before in (omega arith, (omega (arith, inside-length (bytes e) (closeAt e) (closes e)), (fits e _ (omega arith), fair e .inside)))
 
-  write-word-requires-2 : write-word-lts.Need-write-word-requires-2 (write-word-calls t) (write-word-at t) write-word.Post
-  write-word-requires-2 c κs = let long = inside (c .before .before .before) .rest-lent in (omega arith, (omega (arith, long), (fits (c .before .before .before .before .before) _ (omega arith), fair (c .before .before .before .before .before) .rest)))
+  write-word-requires-2 : write-word-lts.Need-write-word-requires-2 (claims t) (write-word-at t) write-word.Post
+  write-word-requires-2 c κs = let long = inside (c .before .before .before) .rest-lent in (omega arith, (omega (arith, long), let e = c .before .before .before .before .before in (fits e _ (omega arith), fair e .rest)))
 
-  returns-2 : write-word-lts.Need-returns-2 (write-word-calls t) (write-word-at t) write-word.Post
+  returns-2 : write-word-lts.Need-returns-2 (claims t) (write-word-at t) write-word.Post
   returns-2 c =
-      let a = c .before .before .before .before .before .before .before .before in
       let outer = c .before .before .write-word2 in
-      unranked (a .before .before .before .before .before .args .n) (c .before .before .before .before .before .before .before .before .before .before .before .if1 .left) (a .before .before .inside-size .ensures .0) (fair a) (c .before .before .before .before .before .before .write-word .ensures) (outer .ensures) (inside (c .before .before .before .before .before .before) .whole (outer .last .1 .1 .0))
+      let w = c .before .before .before .before .before .before in
+      let e = w .before .before in
+      unranked (start e .args .n) (e .before .before .before .if1 .left) (e .before .before .inside-size .ensures .0) (fair e) (w .write-word .ensures) (outer .ensures) (inside w .whole (outer .last .1 .1 .0))
 
 pub +write-word-spec : {M : Type 1} → statement M
-+write-word-spec = close μ-write-word λ t. write-word-lts.spec (write-word-calls t) (write-word-at t) write-word.Post
++write-word-spec = close μ-write-word λ t. write-word-lts.spec (claims t) (write-word-at t) write-word.Post
     (returns t)
     (λ c. omega arith)
     (inside-size-requires t)
@@ -111,9 +110,9 @@ pub +write-word-spec : {M : Type 1} → statement M
     (λ c. simp length-set (omega (arith, closes t c)))
     (write-word-requires t)
     (λ c. omega arith)
-    (λ c. omega (arith, inside t (c .before .before) .long, closes t (c .before .before .before .before)))
-    (λ c. omega (arith, inside t (c .before .before) .long, closes t (c .before .before .before .before)))
+    (λ c. let w = c .before .before in omega (arith, inside t w .long, closes t (w .before .before)))
+    (λ c. let w = c .before .before in omega (arith, inside t w .long, closes t (w .before .before)))
     (λ c. omega arith)
     (write-word-requires-2 t)
-    (λ c. inside t (c .before .before .before .before .before .before) .same-long (c .before .before .write-word2 .last .1 .1 .0) (c .before .before .write-word2 .kept .1 .1 .0))
+    (λ c. let outer = c .before .before .write-word2 in inside t (c .before .before .before .before .before .before) .same-long (outer .last .1 .1 .0) (outer .kept .1 .1 .0))
     (returns-2 t)

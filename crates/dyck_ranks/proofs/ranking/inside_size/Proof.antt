@@ -16,11 +16,11 @@ abbrev μ-loop : tie.MeasureT-loop
 μ-loop rank n left₀ j₀ left j = n - j
 
 -- a turn ends with a longer inside
-longer : (c : tie.After-with-inside2 Inv-loop μ-loop) → c .before .before .before .loop .j < c .before .before .before .before .args .n
-longer c = goes-on (c .before .before .before .before .args .n) (c .before .before .before .loop .j) (c .before .before .before .loop .left) (c .before .before .before .loop .inv .0) (c .before .before .before .loop .inv .1) (omega arith) (c .before .before .before .before .pre .1)
+longer : (c : tie.After-with-inside2 Inv-loop μ-loop) → let a = c .before .before .before in a .loop .j < a .before .args .n
+longer c = let a = c .before .before .before in goes-on (a .before .args .n) (a .loop .j) (a .loop .left) (a .loop .inv .0) (a .loop .inv .1) (omega arith) (a .before .pre .1)
 
 loop-again : tie.Need-loop-again Inv-loop μ-loop
-loop-again c = (omega (arith, longer c), rw add-one (omega (arith, shorter-suc (c .before .before .before .before .args .n) (c .before .before .before .loop .j))))
+loop-again c = let a = c .before .before .before in (omega (arith, longer c), rw add-one (omega (arith, shorter-suc (a .before .args .n) (a .loop .j))))
 
 pub inside-size-spec : {M : Type 1} → statement M
 inside-size-spec =
@@ -35,4 +35,4 @@ inside-size-spec =
     (λ c. omega (arith, longer c))
     (λ c. omega (arith, longer c))
     loop-again
-    (λ c. (omega arith, omega arith, omega (arith, shorter-suc (c .before .before .before .args .n) (c .before .before .loop .j)))))
+    (λ c. let a = c .before .before in (omega arith, omega arith, omega (arith, shorter-suc (a .before .args .n) (a .loop .j)))))

@@ -43,21 +43,21 @@ row-calls t = (branch-below t, branch.Post, row-below t, row.Post)
 abbrev branch-calls : ℕ → branch-lts.Claims
 branch-calls t = (row-below t, row.Post)
 
+abbrev branch-start : (t : ℕ) → branch-lts.After-end (branch-calls t) (branch-at t) branch.Post → branch-lts.Start (branch-calls t) (branch-at t) branch.Post
+branch-start t c = c .before .before .before .before
+
 -- in a branch, how far its row came
-row-read : (t : ℕ) (c : branch-lts.After-end (branch-calls t) (branch-at t) branch.Post) → RowRead (c .before .before .before .before .args .object .now) (c .before .before .before .before .args .at + 1) (To (c .end .given .0 .0))
-row-read t c = subst (RowRead (c .before .before .before .before .args .object .now) (c .before .before .before .before .args .at + 1)) (c .end .given .1) (c .before .before .row .ensures)
+row-read : (t : ℕ) (c : branch-lts.After-end (branch-calls t) (branch-at t) branch.Post) → let a = branch-start t c .args in RowRead (a .object .now) (a .at + 1) (To (c .end .given .0 .0))
+row-read t c = subst (RowRead _ _) (c .end .given .1) (c .before .before .row .ensures)
 
 -- in a row, how far its branch came
-branch-read : (t : ℕ) (c : row-lts.After-next (row-calls t) (row-at t) row.Post) → BranchRead (c .before .before .before .before .before .before .before .args .object .now) (c .before .before .before .before .before .before .before .args .at) (To (c .next .given .0 .0))
-branch-read t c = subst (BranchRead (c .before .before .before .before .before .before .before .args .object .now) (c .before .before .before .before .before .before .before .args .at)) (c .next .given .1) (c .before .before .branch .ensures)
+branch-read : (t : ℕ) (c : row-lts.After-next (row-calls t) (row-at t) row.Post) → let a = c .before .before .before .before .before .before .before .args in BranchRead (a .object .now) (a .at) (To (c .next .given .0 .0))
+branch-read t c = subst (BranchRead _ _) (c .next .given .1) (c .before .before .branch .ensures)
 
 branch-returns : (t : ℕ) → branch-lts.Need-returns (branch-calls t) (branch-at t) branch.Post
 branch-returns t c =
-    let start = c .before .before .before .before in
-    branch-fails (start .args .object .now) (start .args .at) (start .pre .1) (subst (RowRead (start .args .object .now) (start .args .at + 1)) (c .enum-told .given .1) (c .before .before .row .ensures))
-
-row-returns-3 : (t : ℕ) → row-lts.Need-returns-3 (row-calls t) (row-at t) row.Post
-row-returns-3 t c = let start = c .before .before .before .before .before .before .before in subst (BranchRead (start .args .object .now) (start .args .at)) (c .enum-told .given .1) (c .before .before .branch .ensures)
+    let s = c .before .before .before .before in
+    branch-fails (s .args .object .now) (s .args .at) (s .pre .1) (subst (RowRead _ _) (c .enum-told .given .1) (c .before .before .row .ensures))
 
 pub +branch+row-spec : {M : Type 1} → statement M
 +branch+row-spec =
@@ -70,11 +70,11 @@ pub +branch+row-spec : {M : Type 1} → statement M
     (λ c. search needs)
     (λ c. search needs)
     (branch-returns t)
-    (λ c. let start = c .before .before .before .before .before .before in branch-open (start .args .object .now) (start .args .at) (start .pre .1) (row-read t (c .before .before) .0) (omega arith))
+    (λ c. let e = c .before .before in branch-open _ _ (branch-start t e .pre .1) (row-read t e .0) (omega arith))
     (λ c. omega arith)
-    (λ c. let start = c .before .before .before .before .before .before .before .before in branch-stuck (start .args .object .now) (start .args .at) (start .pre .1) (row-read t (c .before .before .before .before)) (omega arith) (c .if2 .taken))
+    (λ c. let e = c .before .before .before .before in branch-stuck _ _ (branch-start t e .pre .1) (row-read t e) (omega arith) (c .if2 .taken))
     (λ c. omega arith)
-    (λ c. let start = c .before .before .before .before .before .before .before .before in branch-closes (start .args .object .now) (start .args .at) (start .pre .1) (row-read t (c .before .before .before .before) .0) (omega arith) (c .if2 .left)))
+    (λ c. let e = c .before .before .before .before in branch-closes _ _ (branch-start t e .pre .1) (row-read t e .0) (omega arith) (c .if2 .left)))
     λ t. row-lts.spec (row-calls t) (row-at t) row.Post
     (λ c. let start = c .before .before in row-stays (start .pre .1) (λ e. omega (arith, List·getD-eq-default (start .args .object .now) 0 {n = start .args .at} (omega arith))))
     (λ c. omega arith)
@@ -82,6 +82,6 @@ pub +branch+row-spec : {M : Type 1} → statement M
     (λ c κs. (omega arith, (omega arith, c .if2 .left)))
     (λ c. search needs)
     (λ c. search needs)
-    (row-returns-3 t)
+    (λ c. subst (BranchRead _ _) (c .enum-told .given .1) (c .before .before .branch .ensures))
     (λ c κs. let b = branch-read t (c .before) in (omega (arith, b .0 .onward, b .0 .inside, b .1), b .0 .inside))
     (λ c. row-goes (branch-read t (c .before .before) .0) (c .row .result) (c .row .ensures))

@@ -28,8 +28,8 @@ kept c = ap length (c .loop .inv .1) ∙ length-filled bit (c .loop .i) (c .befo
 
 returns : tie.Need-returns Inv-loop μ-loop
 returns c n long =
-    let x = c .before .before .before .before .before .before .before .before .before .before .args .object .now in
-    let ones = c .before .before .before .before .before .before .fill-with in
+    let written = c .before .before .before .before .before .before in let ones = written .fill-with in
+    let a = written .before .before .before .before .args in let x = a .object .now in
     let zeros = c .before .before .fill-with2 in
     let h = length x / 2 in
     let front : length (take h x) ≡ h = length-take-le h x (omega arith) in
@@ -37,7 +37,7 @@ returns c n long =
     let back : length x - h ≡ n = omega arith in
     both-written h x (ones .last .0) (omega arith) (ones .kept .0 ∙ front) (zeros .last .0)
     ∙ ap₂ (λ a b. a ++ b) (ones .ensures ∙ ap (λ k. replicate k 1) (front ∙ half)) (zeros .ensures ∙ ap (λ k. replicate k 0) (rest-lent h x (ones .last .0) (omega arith) (ones .kept .0 ∙ front) ∙ back))
-    ∙ nested n ∙ ap (λ up. word (startTree up n)) (sym (not-true (c .before .before .before .before .before .before .before .before .before .before .args .up) (c .before .before .before .before .before .before .before .before .if1 .taken)))
+    ∙ nested n ∙ ap (λ up. word (startTree up n)) (sym (not-true (a .up) (written .before .before .if1 .taken)))
 
 loop-again : tie.Need-loop-again Inv-loop μ-loop
 loop-again c =
@@ -46,10 +46,10 @@ loop-again c =
 
 returns-2 : tie.Need-returns-2 Inv-loop μ-loop
 returns-2 c n long =
-    c .before .loop .inv .1
-    ∙ fill-all bit (c .before .loop .i) (c .before .before .before .before .args .object .now) (omega (arith, kept (c .before)))
+    let a = c .before .before .before .before .args in c .before .loop .inv .1
+    ∙ fill-all bit (c .before .loop .i) (a .object .now) (omega (arith, kept (c .before)))
     ∙ ap (λ k. map bit (range 0 k)) long
-    ∙ alternates n ∙ ap (λ up. word (startTree up n)) (sym (not-false (c .before .before .before .before .args .up) (c .before .before .if1 .left)))
+    ∙ alternates n ∙ ap (λ up. word (startTree up n)) (sym (not-false (a .up) (c .before .before .if1 .left)))
 
 pub start-over-spec : {M : Type 1} → statement M
 start-over-spec =

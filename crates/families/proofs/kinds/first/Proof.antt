@@ -10,72 +10,71 @@ use Rattle.families.proofs.Dispatch.{handed, long-n, long-k, n-within, 
 use Rattle.families.proofs.kinds.first.Statement.{statement}
 use Rattle.families.proofs.kinds.first.Tie as tie
 
--- kind 1
-
-returns : tie.Need-returns
-returns c =
-    let t = long-k 1 _ _ (c .before .before .before .before .before .before .before .args .object .now) (c .before .before .before .before .match .keys1) (c .before .before .before .before .before .before .before .pre .0) (c .before .before .before .before .before .before .before .pre .1 .1) refl in
-    rw (t .lists) (c .before .before .first .ensures)
-
--- kind 3
-
-returns-3 : tie.Need-returns-3
-returns-3 c =
-    let t = long-n 3 _ _ (c .before .before .before .before .before .before .before .args .object .now) (c .before .before .before .before .match .keys3) (c .before .before .before .before .before .before .before .pre .0) (c .before .before .before .before .before .before .before .pre .1 .1) refl in
-    rw (t .lists) (c .before .before .first3 .ensures)
-
--- kind 4
-
-returns-4 : tie.Need-returns-4
-returns-4 c =
-    let t = long-n 4 _ _ (c .before .before .before .before .before .before .before .args .object .now) (c .before .before .before .before .match .keys4) (c .before .before .before .before .before .before .before .pre .0) (c .before .before .before .before .before .before .before .pre .1 .1) refl in
-    rw (t .lists) (c .before .before .first4 .ensures)
-
--- kind 5
-
-returns-5 : tie.Need-returns-5
-returns-5 c =
-    let t = long-k 5 _ _ (c .before .before .before .before .before .before .before .args .object .now) (c .before .before .before .before .match .keys5) (c .before .before .before .before .before .before .before .pre .0) (c .before .before .before .before .before .before .before .pre .1 .1) refl in
-    rw (t .lists) (c .before .before .first5 .ensures)
-
+-- the kinds in turn: what each one's function asks, then what it leaves
 pub first-spec : {M : Type 1} → statement M
 first-spec =
     tie.close
     (tie.spec
     (λ c. search needs)
     (λ c κs.
-    let t = long-k 1 _ _ (c .before .before .before .before .args .object .now) (c .before .match .keys1) (c .before .before .before .before .pre .0) (c .before .before .before .before .pre .1 .1) refl in
-    (n-within _ _ _ (t .bounds), leb-true _ _ (t .some (c .before .before .before .before .pre .1 .0))))
+    let s = c .before .before .before .before in
+    let t = long-k 1 _ _ (s .args .object .now) (c .before .match .keys1) (s .pre .0) (s .pre .1 .1) refl in
+    (n-within _ _ _ (t .bounds), leb-true _ _ (t .some (s .pre .1 .0))))
     (λ c κs.
-    let t = handed 2 _ _ (c .before .match .keys2) (c .before .before .before .before .pre .0) in
-    rw (← List·getD-map now (c .before .before .before .before .args .t2) 0 _) (letters-fit t, c .before .before .before .before .pre .1 .1 ∙ t .long))
+    let s = c .before .before .before .before in
+    let t = handed 2 _ _ (c .before .match .keys2) (s .pre .0) in
+    rw (← List·getD-map now (s .args .t2) 0 _) (letters-fit t, s .pre .1 .1 ∙ t .long))
     (λ c κs.
-    let t = long-n 3 _ _ (c .before .before .before .before .args .object .now) (c .before .match .keys3) (c .before .before .before .before .pre .0) (c .before .before .before .before .pre .1 .1) refl in
+    let s = c .before .before .before .before in
+    let t = long-n 3 _ _ (s .args .object .now) (c .before .match .keys3) (s .pre .0) (s .pre .1 .1) refl in
     n-within _ _ _ (t .bounds))
     (λ c κs.
-    let t = long-n 4 _ _ (c .before .before .before .before .args .object .now) (c .before .match .keys4) (c .before .before .before .before .pre .0) (c .before .before .before .before .pre .1 .1) refl in
-    (n-within _ _ _ (t .bounds), shared _ _ _ (t .some (c .before .before .before .before .pre .1 .0))))
+    let s = c .before .before .before .before in
+    let t = long-n 4 _ _ (s .args .object .now) (c .before .match .keys4) (s .pre .0) (s .pre .1 .1) refl in
+    (n-within _ _ _ (t .bounds), shared _ _ _ (t .some (s .pre .1 .0))))
     (λ c κs.
-    let t = long-k 5 _ _ (c .before .before .before .before .args .object .now) (c .before .match .keys5) (c .before .before .before .before .pre .0) (c .before .before .before .before .pre .1 .1) refl in
-    let p = shared _ _ _ (t .some (c .before .before .before .before .pre .1 .0)) in
+    let s = c .before .before .before .before in
+    let t = long-k 5 _ _ (s .args .object .now) (c .before .match .keys5) (s .pre .0) (s .pre .1 .1) refl in
+    let p = shared _ _ _ (t .some (s .pre .1 .0)) in
     ((n-within _ _ _ (t .bounds), p .0), p .1))
     (λ c κs.
-    let t = handed 6 _ _ (c .before .match .keys6) (c .before .before .before .before .pre .0) in
-    c .before .before .before .before .pre .1 .1 ∙ t .long)
-    (λ c. search needs)
-    returns
-    (λ c. search needs)
-    (λ c.
-    let t = handed 2 _ _ (c .before .before .before .before .match .keys2) (c .before .before .before .before .before .before .before .pre .0) in
-    rw (t .lists) (rw (← List·getD-map now (c .before .before .before .before .before .before .before .args .t2) 0 _) at (c .before .before .first2 .ensures)))
-    (λ c. search needs)
-    returns-3
-    (λ c. search needs)
-    returns-4
-    (λ c. search needs)
-    returns-5
+    let s = c .before .before .before .before in
+    let t = handed 6 _ _ (c .before .match .keys6) (s .pre .0) in
+    s .pre .1 .1 ∙ t .long)
     (λ c. search needs)
     (λ c.
-    let t = handed 6 _ _ (c .before .before .before .before .match .keys6) (c .before .before .before .before .before .before .before .pre .0) in
+    let m = c .before .before .before .before in
+    let s = m .before .before .before in
+    let t = long-k 1 _ _ (s .args .object .now) (m .match .keys1) (s .pre .0) (s .pre .1 .1) refl in
+    rw (t .lists) (c .before .before .first .ensures))
+    (λ c. search needs)
+    (λ c.
+    let m = c .before .before .before .before in
+    let s = m .before .before .before in
+    let t = handed 2 _ _ (m .match .keys2) (s .pre .0) in
+    rw (t .lists) (rw (← List·getD-map now (s .args .t2) 0 _) at (c .before .before .first2 .ensures)))
+    (λ c. search needs)
+    (λ c.
+    let m = c .before .before .before .before in
+    let s = m .before .before .before in
+    let t = long-n 3 _ _ (s .args .object .now) (m .match .keys3) (s .pre .0) (s .pre .1 .1) refl in
+    rw (t .lists) (c .before .before .first3 .ensures))
+    (λ c. search needs)
+    (λ c.
+    let m = c .before .before .before .before in
+    let s = m .before .before .before in
+    let t = long-n 4 _ _ (s .args .object .now) (m .match .keys4) (s .pre .0) (s .pre .1 .1) refl in
+    rw (t .lists) (c .before .before .first4 .ensures))
+    (λ c. search needs)
+    (λ c.
+    let m = c .before .before .before .before in
+    let s = m .before .before .before in
+    let t = long-k 5 _ _ (s .args .object .now) (m .match .keys5) (s .pre .0) (s .pre .1 .1) refl in
+    rw (t .lists) (c .before .before .first5 .ensures))
+    (λ c. search needs)
+    (λ c.
+    let m = c .before .before .before .before in
+    let s = m .before .before .before in
+    let t = handed 6 _ _ (m .match .keys6) (s .pre .0) in
     rw (t .lists) (c .before .before .first6 .ensures))
     (λ c. absurd (has-arm _ _ (c .before .before .before .pre .0) (c .match .rest))))

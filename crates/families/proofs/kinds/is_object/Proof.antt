@@ -16,8 +16,8 @@ is-object-spec =
     (λ c. search needs)
     (λ c κs. search needs)
     (λ c κs.
-    let t = handed 2 _ _ (c .match .keys2) (c .before .before .before .pre) in
-    rw (← List·getD-map now (c .before .before .before .args .t2) 0 _) (letters-fit t))
+    let s = c .before .before .before in let t = handed 2 _ _ (c .match .keys2) (s .pre) in
+    rw (← List·getD-map now (s .args .t2) 0 _) (letters-fit t))
     (λ c κs.
     let t = handed 3 _ _ (c .match .keys3) (c .before .before .before .pre) in
     n-within _ _ _ (t .bounds))
@@ -30,8 +30,8 @@ is-object-spec =
     let t = handed 1 _ _ (c .before .match .keys1) (c .before .before .before .before .pre) in
     c .is-object .ensures ∙ sym (t .objects _))
     (λ c.
-    let t = handed 2 _ _ (c .before .match .keys2) (c .before .before .before .before .pre) in
-    (rw (← List·getD-map now (c .before .before .before .before .args .t2) 0 _) at (c .is-object2 .ensures)) ∙ sym (t .objects _))
+    let s = c .before .before .before .before in let t = handed 2 _ _ (c .before .match .keys2) (s .pre) in
+    (rw (← List·getD-map now (s .args .t2) 0 _) at (c .is-object2 .ensures)) ∙ sym (t .objects _))
     (λ c.
     let t = handed 3 _ _ (c .before .match .keys3) (c .before .before .before .before .pre) in
     c .is-object3 .ensures ∙ sym (t .objects _))

@@ -15,41 +15,41 @@ previous-spec =
     tie.close
     (tie.spec
     (λ c κs.
-    let t = object-k 1 _ _ _ (c .before .match .keys1) (c .before .before .before .pre) refl in
-    (n-within _ _ _ (t .bounds), sym (t .objects _) ∙ c .before .before .before .pre))
+    let s = c .before .before .before in let t = object-k 1 _ _ _ (c .before .match .keys1) (s .pre) refl in
+    (n-within _ _ _ (t .bounds), sym (t .objects _) ∙ s .pre))
     (λ c κs. search needs)
     (λ c κs. search needs)
     (λ c κs.
-    let t = object-n 4 _ _ _ (c .before .match .keys4) (c .before .before .before .pre) refl in
-    (n-within _ _ _ (t .bounds), sym (t .objects _) ∙ c .before .before .before .pre))
+    let s = c .before .before .before in let t = object-n 4 _ _ _ (c .before .match .keys4) (s .pre) refl in
+    (n-within _ _ _ (t .bounds), sym (t .objects _) ∙ s .pre))
     (λ c κs.
-    let t = object-k 5 _ _ _ (c .before .match .keys5) (c .before .before .before .pre) refl in
-    (n-within _ _ _ (t .bounds), sym (t .objects _) ∙ c .before .before .before .pre))
+    let s = c .before .before .before in let t = object-k 5 _ _ _ (c .before .match .keys5) (s .pre) refl in
+    (n-within _ _ _ (t .bounds), sym (t .objects _) ∙ s .pre))
     (λ c κs.
-    let t = object 6 _ _ _ (c .before .match .keys6) (c .before .before .before .pre) in
-    (n-within _ _ _ (t .bounds), sym (t .objects _) ∙ c .before .before .before .pre))
+    let s = c .before .before .before in let t = object 6 _ _ _ (c .before .match .keys6) (s .pre) in
+    (n-within _ _ _ (t .bounds), sym (t .objects _) ∙ s .pre))
     (λ c. search needs)
     (λ c.
-    let t = object-k 1 _ _ _ (c .before .before .before .before .match .keys1) (c .before .before .before .before .before .before .pre) refl in
+    let m = c .before .before .before .before in let t = object-k 1 _ _ _ (m .match .keys1) (m .before .before .pre) refl in
     rw (t .orders, t .lists) (c .before .before .previous .ensures))
     (λ c. search needs)
     (λ c.
-    let t = object 2 _ _ _ (c .before .before .before .before .match .keys2) (c .before .before .before .before .before .before .pre) in
-    rw (t .orders, t .lists) (c .before .before .previous2 .ensures _ (sym (t .objects _) ∙ c .before .before .before .before .before .before .pre)))
+    let m = c .before .before .before .before in let t = object 2 _ _ _ (m .match .keys2) (m .before .before .pre) in
+    rw (t .orders, t .lists) (c .before .before .previous2 .ensures _ (sym (t .objects _) ∙ m .before .before .pre)))
     (λ c. search needs)
     (λ c.
-    let t = object-n 3 _ _ _ (c .before .before .before .before .match .keys3) (c .before .before .before .before .before .before .pre) refl in
-    rw (t .orders, t .lists) (c .before .before .previous3 .ensures (ones (length (c .before .before .before .before .before .before .args .object .now))) (sym (t .objects _) ∙ c .before .before .before .before .before .before .pre)))
+    let m = c .before .before .before .before in let t = object-n 3 _ _ _ (m .match .keys3) (m .before .before .pre) refl in
+    rw (t .orders, t .lists) (c .before .before .previous3 .ensures (ones (length (m .before .before .args .object .now))) (sym (t .objects _) ∙ m .before .before .pre)))
     (λ c. search needs)
     (λ c.
-    let t = object-n 4 _ _ _ (c .before .before .before .before .match .keys4) (c .before .before .before .before .before .before .pre) refl in
+    let m = c .before .before .before .before in let t = object-n 4 _ _ _ (m .match .keys4) (m .before .before .pre) refl in
     rw (t .orders, t .lists) (c .before .before .previous4 .ensures))
     (λ c. search needs)
     (λ c.
-    let t = object-k 5 _ _ _ (c .before .before .before .before .match .keys5) (c .before .before .before .before .before .before .pre) refl in
+    let m = c .before .before .before .before in let t = object-k 5 _ _ _ (m .match .keys5) (m .before .before .pre) refl in
     rw (t .orders, t .lists) (c .before .before .previous5 .ensures))
     (λ c. search needs)
     (λ c.
-    let t = object 6 _ _ _ (c .before .before .before .before .match .keys6) (c .before .before .before .before .before .before .pre) in
+    let m = c .before .before .before .before in let t = object 6 _ _ _ (m .match .keys6) (m .before .before .pre) in
     rw (t .orders, t .lists) (c .before .before .previous6 .ensures))
     (λ c. absurd (has-arm _ _ (object-allowed _ _ _ (c .before .before .pre)) (c .match .rest))))

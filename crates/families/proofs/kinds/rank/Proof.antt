@@ -23,8 +23,8 @@ returns c =
 returns-2 : tie.Need-returns-2
 unfolding rankOf
 returns-2 c =
-    let t = object 2 _ _ _ (c .before .match .keys2) (c .before .before .before .before .pre .0) in
-    rw (t .orders, t .lists) (rw (← List·getD-map now (c .before .before .before .before .args .t2) 0 _) at (c .rank2 .ensures))
+    let s = c .before .before .before .before in let t = object 2 _ _ _ (c .before .match .keys2) (s .pre .0) in
+    rw (t .orders, t .lists) (rw (← List·getD-map now (s .args .t2) 0 _) at (c .rank2 .ensures))
 
 -- kind 3
 
@@ -64,23 +64,23 @@ rank-spec =
     (tie.spec
     (λ c. search needs)
     (λ c κs.
-    let t = object-k 1 _ _ _ (c .match .keys1) (c .before .before .before .pre .0) refl in
-    (n-within _ _ _ (t .bounds), (sym (t .objects _) ∙ c .before .before .before .pre .0, rw (t .counted) at (c .before .before .before .pre .1))))
+    let s = c .before .before .before in let t = object-k 1 _ _ _ (c .match .keys1) (s .pre .0) refl in
+    (n-within _ _ _ (t .bounds), (sym (t .objects _) ∙ s .pre .0, rw (t .counted) at (s .pre .1))))
     (λ c κs.
-    let t = object 2 _ _ _ (c .match .keys2) (c .before .before .before .pre .0) in
-    rw (← List·getD-map now (c .before .before .before .args .t2) 0 _) (letters-fit t, (t .short, (sym (t .objects _) ∙ c .before .before .before .pre .0, rw (t .counted) at (c .before .before .before .pre .1)))))
+    let s = c .before .before .before in let t = object 2 _ _ _ (c .match .keys2) (s .pre .0) in
+    rw (← List·getD-map now (s .args .t2) 0 _) (letters-fit t, (t .short, (sym (t .objects _) ∙ s .pre .0, rw (t .counted) at (s .pre .1)))))
     (λ c κs.
-    let t = object-n 3 _ _ _ (c .match .keys3) (c .before .before .before .pre .0) refl in
-    (n-within _ _ _ (t .bounds), (sym (t .objects _) ∙ c .before .before .before .pre .0, rw (t .counted) at (c .before .before .before .pre .1))))
+    let s = c .before .before .before in let t = object-n 3 _ _ _ (c .match .keys3) (s .pre .0) refl in
+    (n-within _ _ _ (t .bounds), (sym (t .objects _) ∙ s .pre .0, rw (t .counted) at (s .pre .1))))
     (λ c κs.
-    let t = object-n 4 _ _ _ (c .match .keys4) (c .before .before .before .pre .0) refl in
-    (n-within _ _ _ (t .bounds), (sym (t .objects _) ∙ c .before .before .before .pre .0, rw (t .counted) at (c .before .before .before .pre .1))))
+    let s = c .before .before .before in let t = object-n 4 _ _ _ (c .match .keys4) (s .pre .0) refl in
+    (n-within _ _ _ (t .bounds), (sym (t .objects _) ∙ s .pre .0, rw (t .counted) at (s .pre .1))))
     (λ c κs.
-    let t = object-k 5 _ _ _ (c .match .keys5) (c .before .before .before .pre .0) refl in
-    ((n-within _ _ _ (t .bounds), floor-positive _ _ (object-allowed _ _ _ (c .before .before .before .pre .0)) (c .match .keys5)), sym (t .objects _) ∙ c .before .before .before .pre .0))
+    let s = c .before .before .before in let t = object-k 5 _ _ _ (c .match .keys5) (s .pre .0) refl in
+    ((n-within _ _ _ (t .bounds), floor-positive _ _ (object-allowed _ _ _ (s .pre .0)) (c .match .keys5)), sym (t .objects _) ∙ s .pre .0))
     (λ c κs.
-    let t = object 6 _ _ _ (c .match .keys6) (c .before .before .before .pre .0) in
-    (n-within _ _ _ (t .bounds), (sym (t .objects _) ∙ c .before .before .before .pre .0, rw (t .counted) at (c .before .before .before .pre .1))))
+    let s = c .before .before .before in let t = object 6 _ _ _ (c .match .keys6) (s .pre .0) in
+    (n-within _ _ _ (t .bounds), (sym (t .objects _) ∙ s .pre .0, rw (t .counted) at (s .pre .1))))
     returns
     returns-2
     returns-3

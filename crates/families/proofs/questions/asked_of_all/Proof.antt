@@ -1,8 +1,12 @@
 -- `families::questions::asked_of_all` meets its contract. Each test is the next question.
 -- Assumes nothing.
-use mathlib.Core.Path.{sym, _∙_}
+use mathlib.Core.Path.{_≡_, sym, _∙_}
+use mathlib.Core.List.{[], _∷_, map}
+use denote.Ref.{now}
 use borrow.Author.Needs.{needs}
-use Rattle.families.specs.Families.{askedOfAll}
+use Rattle.listings.specs.Calls.{firstNo}
+use Rattle.families.specs.Table.{lent}
+use Rattle.families.specs.Families.{listsFit, always, askedOfAll}
 use Rattle.families.proofs.QuestionLaws.{past, stop, none-left}
 use Rattle.families.proofs.Verdicts.{is-no, is-yes}
 use Rattle.families.proofs.questions.asked_of_all.Statement.{statement}
@@ -18,28 +22,24 @@ returns-2 c = sym (past _ _ (is-yes (c .before .before .before .is-kind .ensures
 
 returns-3 : tie.Need-returns-3
 unfolding askedOfAll
-returns-3 c = sym (past _ _ (is-yes (c .before .before .before .before .before .is-kind .ensures) (c .before .before .before .before .if1 .left)) ∙ past _ _ (is-yes (c .before .before .before .in-table .ensures) (c .before .before .if2 .left)) ∙ stop _ _ (is-no (c .before .floor-fits .ensures) (c .if3 .taken)))
+returns-3 c =
+    let e = c .before .before in
+    let d = e .before .before in
+    sym (past _ _ (is-yes (d .before .is-kind .ensures) (d .if1 .left)) ∙ past _ _ (is-yes (e .before .in-table .ensures) (e .if2 .left)) ∙ stop _ _ (is-no (c .before .floor-fits .ensures) (c .if3 .taken)))
 
 -- where the lists are asked about, three questions have passed
+passed : (c : tie.Else3) → let a = c .before .before .before .before .before .before .args in firstNo (askedOfAll (a .f) (lent (map now (a .lists)))) ≡ firstNo (always 3 (listsFit (a .f) (lent (map now (a .lists)))) ∷ [])
+unfolding askedOfAll
+passed c =
+    let e = c .before .before in
+    let d = e .before .before in
+    past _ _ (is-yes (d .before .is-kind .ensures) (d .if1 .left)) ∙ past _ _ (is-yes (e .before .in-table .ensures) (e .if2 .left)) ∙ past _ _ (is-yes (c .before .floor-fits .ensures) (c .if3 .left))
 
 returns-4 : tie.Need-returns-4
-unfolding askedOfAll
-returns-4 c =
-    sym
-    (past _ _ (is-yes (c .before .before .before .before .before .before .before .is-kind .ensures) (c .before .before .before .before .before .before .if1 .left))
-    ∙ past _ _ (is-yes (c .before .before .before .before .before .in-table .ensures) (c .before .before .before .before .if2 .left))
-    ∙ past _ _ (is-yes (c .before .before .before .floor-fits .ensures) (c .before .before .if3 .left))
-    ∙ stop _ _ (is-no (c .before .lists-fit .ensures) (c .if4 .taken)))
+returns-4 c = sym (passed (c .before .before) ∙ stop _ _ (is-no (c .before .lists-fit .ensures) (c .if4 .taken)))
 
 returns-5 : tie.Need-returns-5
-unfolding askedOfAll
-returns-5 c =
-    sym
-    (past _ _ (is-yes (c .before .before .before .before .before .before .before .is-kind .ensures) (c .before .before .before .before .before .before .if1 .left))
-    ∙ past _ _ (is-yes (c .before .before .before .before .before .in-table .ensures) (c .before .before .before .before .if2 .left))
-    ∙ past _ _ (is-yes (c .before .before .before .floor-fits .ensures) (c .before .before .if3 .left))
-    ∙ past _ _ (is-yes (c .before .lists-fit .ensures) (c .if4 .left))
-    ∙ none-left)
+returns-5 c = sym (passed (c .before .before) ∙ past _ _ (is-yes (c .before .lists-fit .ensures) (c .if4 .left)) ∙ none-left)
 
 pub asked-of-all-spec : {M : Type 1} → statement M
 asked-of-all-spec =

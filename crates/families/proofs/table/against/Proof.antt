@@ -3,8 +3,8 @@
 use mathlib.Core.Path.{sym, _∙_}
 use native.Mathlib.Omega.{arith}
 use borrow.Author.Needs.{needs}
-use Rattle.counting.proofs.Answers.{exactly, exactly-below}
-use Rattle.families.proofs.CountAnswers.{not-exact, is-too-large, is-below, is-beyond}
+use Rattle.counting.proofs.Answers.{exactly, exactly-below, not-exact}
+use Rattle.families.proofs.CountAnswers.{is-too-large, is-below, is-beyond}
 use Rattle.families.proofs.table.against.Statement.{statement}
 use Rattle.families.proofs.table.against.Tie as tie
 

@@ -26,21 +26,21 @@ count-spec =
     (λ c κs. search needs)
     (λ c κs. search needs)
     (λ c.
-    let t = handed 1 (c .before .before .before .args .f) (lent (map now (c .before .before .before .args .t2))) (c .before .match .keys1) (c .before .before .before .pre) in
+    let s = c .before .before .before in let t = handed 1 (s .args .f) (lent (map now (s .args .t2))) (c .before .match .keys1) (s .pre) in
     answer-within (c .coefficient .ensures) (t .bounds) (t .counted))
     (λ c.
-    let t = handed 2 (c .before .before .before .args .f) (lent (map now (c .before .before .before .args .t2))) (c .before .match .keys2) (c .before .before .before .pre) in
-    answer-within (rw (← List·getD-map now (c .before .before .before .args .t2) 0 _) at (c .multinomial .ensures)) (sum-fits t) (t .counted))
+    let s = c .before .before .before in let t = handed 2 (s .args .f) (lent (map now (s .args .t2))) (c .before .match .keys2) (s .pre) in
+    answer-within (rw (← List·getD-map now (s .args .t2) 0 _) at (c .multinomial .ensures)) (sum-fits t) (t .counted))
     (λ c.
-    let t = handed 3 (c .before .before .before .args .f) (lent (map now (c .before .before .before .args .t2))) (c .before .match .keys3) (c .before .before .before .pre) in
-    answer-within (c .factorial .ensures) (and-true (leb (c .before .before .before .args .f .n) places) _ (t .bounds) .0) (t .counted))
+    let s = c .before .before .before in let t = handed 3 (s .args .f) (lent (map now (s .args .t2))) (c .before .match .keys3) (s .pre) in
+    answer-within (c .factorial .ensures) (and-true (leb (s .args .f .n) places) _ (t .bounds) .0) (t .counted))
     (λ c.
-    let t = handed 4 (c .before .before .before .args .f) (lent (map now (c .before .before .before .args .t2))) (c .before .match .keys4) (c .before .before .before .pre) in
+    let s = c .before .before .before in let t = handed 4 (s .args .f) (lent (map now (s .args .t2))) (c .before .match .keys4) (s .pre) in
     answer-within (c .stirling .ensures) (t .bounds) (t .counted))
     (λ c.
-    let t = handed 5 (c .before .before .before .args .f) (lent (map now (c .before .before .before .args .t2))) (c .before .match .keys5) (c .before .before .before .pre) in
-    answer-within (c .partitions .ensures) (and-makes (floor-within _ _ (c .before .before .before .pre) (c .before .match .keys5)) (t .bounds)) (t .counted))
+    let s = c .before .before .before in let t = handed 5 (s .args .f) (lent (map now (s .args .t2))) (c .before .match .keys5) (s .pre) in
+    answer-within (c .partitions .ensures) (and-makes (floor-within _ _ (s .pre) (c .before .match .keys5)) (t .bounds)) (t .counted))
     (λ c.
-    let t = handed 6 (c .before .before .before .args .f) (lent (map now (c .before .before .before .args .t2))) (c .before .match .keys6) (c .before .before .before .pre) in
-    answer-within (c .catalan .ensures) (and-true (leb (c .before .before .before .args .f .n) branches) _ (t .bounds) .0) (t .counted))
+    let s = c .before .before .before in let t = handed 6 (s .args .f) (lent (map now (s .args .t2))) (c .before .match .keys6) (s .pre) in
+    answer-within (c .catalan .ensures) (and-true (leb (s .args .f .n) branches) _ (t .bounds) .0) (t .counted))
     (λ c. absurd (has-arm _ _ (c .before .before .pre) (c .match .rest))))

@@ -37,31 +37,31 @@ loop-holds : tie.Need-loop-holds Inv-loop μ-loop
 unfolding objectLines
 loop-holds c = (omega arith, (refl, (refl, (omega arith, (c .before .before .pre .1 .1, wrote-nothing _ _)))))
 
+-- where the object was put before NEXT was asked, and the head of that turn
+abbrev put : tie.After-next Inv-loop μ-loop → tie.After-put-object Inv-loop μ-loop
+put c = c .before .before .before .before
+
+abbrev head : tie.After-put-object Inv-loop μ-loop → tie.At-loop Inv-loop μ-loop
+head c = c .before .before .before .before
+
 returns : tie.Need-returns Inv-loop μ-loop
 returns c =
-    let l = c .before .before .before .before .before .before .before .before .before .before .before .before .before .before .before .loop in
-    let a = c .before .before .before .before .before .before .before .before .before .before .before .before .before .before .before .before .before .before .args in
-    let s = listing (a .f) (lent (map now (a .lists))) in
-    let here = l .inv .1 .1 .1 .1 .0 in
-    let line = line-written s (l .rank) (l .inv .1 .1 .1 .1 .1) here (c .before .before .before .before .before .before .before .before .before .before .before .put-object .ensures .1) in
-    let last = stops (a .f) (lent (map now (a .lists))) (l .rank) here (not-moved (c .before .before .before .before .before .before .before .next .result) (c .before .before .before .before .match .keys2)) (c .before .before .before .before .before .before .before .next .ensures) in
-    ended s (l .rank + 1) line (omega arith) (omega arith) (c .before .before .put-last .ensures)
+    let n = c .before .before .before .before .before .before .before in let p = put n in let l = head p .loop in
+    let a = head p .before .before .before .args in let s = listing (a .f) (lent (map now (a .lists))) in let here = l .inv .1 .1 .1 .1 .0 in
+    let last = stops (a .f) (lent (map now (a .lists))) (l .rank) here (not-moved (n .next .result) (c .before .before .before .before .match .keys2)) (n .next .ensures) in
+    ended s (l .rank + 1) (line-written s (l .rank) (l .inv .1 .1 .1 .1 .1) here (p .put-object .ensures .1)) (omega arith) (omega arith) (c .before .before .put-last .ensures)
 
 loop-again : tie.Need-loop-again Inv-loop μ-loop
 loop-again c =
-    let l = c .before .before .before .before .before .before .before .before .before .before .before .before .loop in
-    let a = c .before .before .before .before .before .before .before .before .before .before .before .before .before .before .before .args in
-    let s = listing (a .f) (lent (map now (a .lists))) in
-    let here = l .inv .1 .1 .1 .1 .0 in
-    let line = line-written s (l .rank) (l .inv .1 .1 .1 .1 .1) here (c .before .before .before .before .before .before .before .before .put-object .ensures .1) in
-    let there = moves-on (a .f) (lent (map now (a .lists))) (l .rank) here (rw (c .enum-told .given .1) at (c .before .before .before .before .next .ensures)) in
-    (omega arith, (search needs, (search needs, (omega arith, (rw add-one there, line)))))
+    let n = c .before .before .before .before in let p = put n in let l = head p .loop in
+    let a = head p .before .before .before .args in let s = listing (a .f) (lent (map now (a .lists))) in let here = l .inv .1 .1 .1 .1 .0 in
+    let there = moves-on (a .f) (lent (map now (a .lists))) (l .rank) here (rw (c .enum-told .given .1) at (n .next .ensures)) in
+    (omega arith, (search needs, (search needs, (omega arith, (rw add-one there, line-written s (l .rank) (l .inv .1 .1 .1 .1 .1) here (p .put-object .ensures .1))))))
 
 returns-2 : tie.Need-returns-2 Inv-loop μ-loop
 returns-2 c =
-    let l = c .before .before .before .before .before .loop in
-    let a = c .before .before .before .before .before .before .before .before .args in
-    let s = listing (a .f) (lent (map now (a .lists))) in
+    let h = c .before .before .before .before .before in let l = h .loop in
+    let a = h .before .before .before .args in let s = listing (a .f) (lent (map now (a .lists))) in
     cut s (l .rank) (l .inv .1 .1 .1 .1 .1) (at-below s (l .rank) (l .inv .1 .1 .1 .1 .0)) (omega arith) (c .before .before .put-last2 .ensures)
 
 pub put-objects-spec : {M : Type 1} → statement M

@@ -10,28 +10,27 @@ use Rattle.slip.proofs.Lines.{headed}
 use Rattle.slip.proofs.listing.put_uncounted.Statement.{statement}
 use Rattle.slip.proofs.listing.put_uncounted.Tie as tie
 
-returns : tie.Need-returns
-unfolding said
-returns c = rw (ne-eqb (c .before .before .before .before .before .before .args .q) 5 (c .before .before .before .before .if1 .taken)) (c .before .before .put-refused .ensures)
-
-put-body-requires : tie.Need-put-body-requires
-put-body-requires c κs = (search needs, c .before .before .before .before .before .before .before .before .before .before .before .before .before .before .before .before .pre .1 (c .before .before .before .before .before .before .before .before .before .before .before .before .before .before .if1 .left))
-
-returns-2 : tie.Need-returns-2
-unfolding said
-returns-2 c = rw (eq-eqb (c .before .before .before .before .before .before .before .before .before .before .before .before .before .before .before .before .before .before .before .args .q) 5 (c .before .before .before .before .before .before .before .before .before .before .before .before .before .before .before .before .before .if1 .left)) (headed (c .before .before .before .before .before .before .before .before .before .before .before .before .before .before .before .before .before .before .before .args .f) (lent (map now (c .before .before .before .before .before .before .before .before .before .before .before .before .before .before .before .before .before .before .before .args .lists))) (c .before .before .before .before .before .before .before .before .before .before .before .before .before .before .before .put-family .ensures .1) (c .before .before .before .before .before .before .before .before .before .before .put-justified .ensures .1) (c .before .before .before .before .before .before .put-byte .ensures .1) (c .before .before .put-body .ensures))
+-- where the first line is written, no refusal but MANY is left
+abbrev many : tie.After-put-byte → tie.Else1
+many c = c .before .before .before .before .before .before .before .before .before .before .before
 
 pub put-uncounted-spec : {M : Type 1} → statement M
+unfolding said
 put-uncounted-spec =
     tie.close
     (tie.spec
     (λ c κs. search needs)
     (λ c. search needs)
-    returns
+    (λ c. let t = c .before .before .before .before in rw (ne-eqb (t .before .before .args .q) 5 (t .if1 .taken)) (c .before .before .put-refused .ensures))
     (λ c κs. search needs)
     (λ c. search needs)
     (λ c κs. search needs)
     (λ c κs. search needs)
-    put-body-requires
+    (λ c κs. let e = many (c .before .before .before) in (search needs, e .before .before .pre .1 (e .if1 .left)))
     (λ c. search needs)
-    returns-2)
+    (λ c.
+    let line = c .before .before .before .before .before .before in
+    let count = line .before .before .before .before in
+    let e = many line in
+    let a = e .before .before .args in
+    rw (eq-eqb (a .q) 5 (e .if1 .left)) (headed (a .f) (lent (map now (a .lists))) (count .before .before .before .before .before .put-family .ensures .1) (count .put-justified .ensures .1) (line .put-byte .ensures .1) (c .before .before .put-body .ensures))))
