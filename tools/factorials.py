@@ -5,7 +5,7 @@ the addition rule; nothing rests on this script.
 
     python3 tools/factorials.py [DIR] && rt fmt
 
-DIR is the folder of crates (default: crates). LAST is `places` of `numbers`."""
+DIR is the folder of crates (default: crates). LAST is `places` of `basics`."""
 import os
 import sys
 from math import comb, factorial

@@ -10,7 +10,7 @@ use native.Mathlib.Omega.{arith}
 use lib.ListN.{length, take, drop, getD, set, length-set, length-map, length-replicate, getD-replicate}
 use lib.Seq.{drop-length, drop-at, length-take-le}
 use borrow.Rule.Slice.PartMut.{midOf, putMid, same-len-mid}
-use Rattle.numbers.specs.Limits.{places}
+use Rattle.basics.specs.Limits.{places}
 use Rattle.basics.specs.Sums.{total}
 use Rattle.basics.proofs.Lists.{drop-set, lent-rest, put-rest, take-replicate}
 use Rattle.numbers.specs.Numbers.{factorialOf, multinomialOf, oneLess}

@@ -5,7 +5,7 @@ ghost use mathlib.Core.Bool.{true};
 ghost use mathlib.Core.List.{map};
 ghost use Prim.Native.Nat.{ℕ, _≤_, _<_, _^_};
 ghost use lib.ListN.{length, getD};
-ghost use Rattle.numbers.specs.Limits.{places};
+ghost use Rattle.basics.specs.Limits.{places};
 ghost use Rattle.numbers.specs.Numbers.{factorialOf};
 ghost use Rattle.listings.specs.Places.{At, countBefore};
 ghost use Rattle.anagrams.specs.Objects.{anagramBefore};

@@ -7,13 +7,13 @@ use Prim.Native.Nat.{ℕ}
 use lib.Dec.{leb, eqb}
 use lib.ListN.{length}
 use borrow.Author.Tests.{leb-true}
-use Rattle.numbers.specs.Limits.{places}
+use Rattle.basics.specs.Limits.{places}
 use Rattle.basics.specs.Sums.{total}
+use Rattle.basics.proofs.Bools.{and-true}
 use Rattle.numbers.specs.Numbers.{multinomialOf, factorialOf}
 use Rattle.numbers.proofs.Laws.{total-ones, multinomial-ones}
 use Rattle.numbers.proofs.Positive.{multinomial-some, factorial-some}
 use Rattle.listings.specs.Rows.{RowLaws}
-use Rattle.basics.proofs.Bools.{and-true}
 use Rattle.anagrams.specs.Objects.{isAnagram, anagramBefore}
 use Rattle.anagrams.specs.Listing.{anagrams}
 use Rattle.anagrams.specs.Permutations.{ones, isPermutation, permutations}

@@ -3,10 +3,10 @@
 ghost use mathlib.Core.Path.{_≡_};
 ghost use Prim.Native.Nat.{ℕ, _≤_};
 ghost use lib.ListN.{length, take};
-ghost use Rattle.numbers.specs.Limits.{places, longestObject};
+ghost use Rattle.basics.specs.Limits.{places, longestObject};
 ghost use Rattle.listings.specs.Places.{First, Last};
 ghost use Rattle.anagrams.specs.Permutations.{ones, isPermutation, permutations};
-use numbers::LONGEST_OBJECT;
+use basics::LONGEST_OBJECT;
 
 // The counts of every letter: the first n are those of the permutations of n.
 pub fn all_ones() -> [u8; LONGEST_OBJECT]

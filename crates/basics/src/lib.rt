@@ -1,7 +1,19 @@
-// Sums of bytes, which the counts, the kinds and the questions share.
+// The limits of paper 01's table of families, as specs/Limits.antt has them; and sums of bytes, which the counts, the kinds and the questions share.
 ghost use mathlib.Core.Path.{_≡_};
 ghost use Prim.Native.Nat.{_+_, _<_, _^_, min};
 ghost use Rattle.basics.specs.Sums.{total};
+
+// "A family has no more than 80 places".
+pub const PLACES: u64 = 80;
+
+// Kind 6: "n branches, 0 to 40".
+pub const BRANCHES: u64 = 40;
+
+// The largest floor of a family, which is no number of places.
+pub const FLOORS: u64 = 80;
+
+// The room that any object needs.
+pub const LONGEST_OBJECT: usize = PLACES as usize;
 
 pub fn wide(b: u8) -> u64
     ensures { λ r. ⌜ r ≡ b ⌝ }

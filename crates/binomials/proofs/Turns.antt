@@ -5,7 +5,7 @@ use Prim.Native.Nat.{ℕ, zero, suc, _+_, _*_, _-_, _%_, _≤_, _<_, _^_}
 use native.Mathlib.Omega.{arith}
 use native.Mathlib.Numerals.{add-one}
 use lib.ListN.{getD}
-use Rattle.numbers.specs.Limits.{places}
+use Rattle.basics.specs.Limits.{places}
 use Rattle.numbers.specs.Numbers.{choose}
 use Rattle.binomials.specs.declared.factorials.Parts.{Parts}
 use Rattle.binomials.specs.inner.Factorials.{odds, inverses, twos, partsOf}

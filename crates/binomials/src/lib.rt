@@ -3,7 +3,7 @@
 ghost use mathlib.Core.Path.{_≡_};
 ghost use Prim.Native.Nat.{_*_, _%_, _≤_, _<_, _^_};
 ghost use lib.Dec.{ltb};
-ghost use Rattle.numbers.specs.Limits.{places};
+ghost use Rattle.basics.specs.Limits.{places};
 ghost use Rattle.numbers.specs.Numbers.{choose};
 ghost use Rattle.binomials.specs.inner.Factors.{numberAt};
 

@@ -3,7 +3,7 @@
 ghost use mathlib.Core.Path.{_≡_};
 ghost use mathlib.Core.Bool.{_&&_, cond};
 ghost use lib.Dec.{leb};
-ghost use Rattle.numbers.specs.Limits.{places, branches, floors};
+ghost use Rattle.basics.specs.Limits.{places, branches, floors};
 ghost use Rattle.basics.specs.Sums.{total};
 ghost use Rattle.numbers.specs.Numbers.{choose, factorialOf, multinomialOf, stirlingOf, partsFrom, catalanOf};
 ghost use Rattle.counting.specs.declared.Count.the-variants.{Outside};
@@ -12,9 +12,9 @@ ghost use Rattle.counting.specs.Answers.{fits, ifFits};
 mod product;
 mod short;
 
-use numbers::BRANCHES;
-use numbers::FLOORS;
-use numbers::PLACES;
+use basics::BRANCHES;
+use basics::FLOORS;
+use basics::PLACES;
 
 pub enum Count {
     // The count, below 2^64.

@@ -2,16 +2,16 @@
 ghost use mathlib.Core.Path.{_≡_};
 ghost use lib.Dec.{leb};
 ghost use Prim.Native.Nat.{_≤_, _*_};
-ghost use Rattle.numbers.specs.Limits.{places};
+ghost use Rattle.basics.specs.Limits.{places};
 ghost use Rattle.basics.specs.Sums.{total};
 ghost use Rattle.numbers.specs.Numbers.{choose, multinomialOf};
 ghost use Rattle.counting.specs.Answers.{fits};
 use crate::Count;
+use basics::PLACES;
 use basics::sum_to_limit;
 use basics::wide;
 use binomials::coefficient;
 use binomials::coefficient_fits;
-use numbers::PLACES;
 
 // Is the sum of the counts within the places?
 pub fn within_places(counts: &[u8]) -> bool

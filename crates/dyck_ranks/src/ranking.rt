@@ -4,7 +4,7 @@ ghost use mathlib.Core.Path.{_≡_};
 ghost use mathlib.Core.Bool.{true};
 ghost use Prim.Native.Nat.{suc, _+_, _*_, _-_, _≤_, _<_, _^_};
 ghost use lib.ListN.{length};
-ghost use Rattle.numbers.specs.Limits.{longestObject};
+ghost use Rattle.basics.specs.Limits.{longestObject};
 ghost use Rattle.numbers.specs.Numbers.{catalanOf};
 ghost use Rattle.listings.specs.Places.{At};
 ghost use Rattle.dyck_words.specs.Objects.{isDyckWord};

@@ -5,11 +5,11 @@ use Prim.Native.Nat.{ℕ, _*_}
 use native.Mathlib.Omega.{arith}
 use lib.Dec.{leb, eqb}
 use borrow.Author.Tests.{leb-true}
-use Rattle.numbers.specs.Limits.{branches}
+use Rattle.basics.specs.Limits.{branches}
+use Rattle.basics.proofs.Bools.{and-true}
 use Rattle.numbers.specs.Numbers.{catalanOf}
 use Rattle.numbers.proofs.Positive.{catalan-some}
 use Rattle.listings.specs.Rows.{RowLaws}
-use Rattle.basics.proofs.Bools.{and-true}
 use Rattle.dyck_words.specs.Objects.{isDyckWord}
 use Rattle.dyck_words.specs.Trees.{dyckBefore}
 use Rattle.dyck_words.specs.Listing.{dyckWords}

@@ -4,10 +4,10 @@
 ghost use mathlib.Core.Path.{_≡_};
 ghost use Prim.Native.Nat.{ℕ, _≤_, _<_};
 ghost use lib.ListN.{length, getD};
-ghost use Rattle.numbers.specs.Limits.{longestObject};
+ghost use Rattle.basics.specs.Limits.{longestObject};
 ghost use Rattle.dyck_words.specs.inner.Reading.{RowRead, BranchRead, RowHere, Told};
 ghost use Rattle.dyck_words.specs.Trees.{Tree, node, word};
-use numbers::LONGEST_OBJECT;
+use basics::LONGEST_OBJECT;
 
 // As many rows as the table has: one for each number of bytes that may be left.
 pub const ROWS: usize = LONGEST_OBJECT + 1;

@@ -4,7 +4,7 @@ ghost use mathlib.Core.Path.{_≡_};
 ghost use mathlib.Core.Bool.{true};
 ghost use Prim.Native.Nat.{ℕ, suc, _+_, _*_, _≤_, _<_};
 ghost use lib.ListN.{length};
-ghost use Rattle.numbers.specs.Limits.{longestObject, branches};
+ghost use Rattle.basics.specs.Limits.{longestObject, branches};
 ghost use Rattle.listings.specs.Calls.{Said, act};
 ghost use Rattle.listings.specs.Directions.{stepCall};
 ghost use Rattle.listings.specs.Steps.{stepAs};

@@ -9,11 +9,11 @@ use native.Mathlib.Omega.{arith}
 use lib.Dec.{leb, ltb, eqb}
 use lib.ListN.{length, getD}
 use borrow.Author.Tests.{leb-true, ltb-true, eqb-true, ne-eqb, lt-ltb, lt-leb}
-use Rattle.numbers.specs.Limits.{places, longestObject}
+use Rattle.basics.specs.Limits.{places, longestObject}
 use Rattle.basics.specs.Sums.{total}
+use Rattle.basics.proofs.Bools.{and-true, or-cases}
 use Rattle.listings.specs.Bytes.{Bytes}
 use Rattle.listings.specs.Rows.{Row}
-use Rattle.basics.proofs.Bools.{and-true, or-cases}
 use Rattle.families.specs.declared.Family.{Family}
 use Rattle.families.specs.Table.{Lent, noRow, table, lastKind}
 use Rattle.families.specs.Families.{row, isKind, inTable, allowed, objectLength, isObject, comesBefore, listing, countOf}

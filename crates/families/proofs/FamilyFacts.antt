@@ -10,12 +10,12 @@ use native.Mathlib.Omega.{arith}
 use native.Mathlib.Decide.{decLe}
 use lib.Dec.{ltb, leb}
 use borrow.Author.Tests.{leb-true}
-use Rattle.numbers.specs.Limits.{longestObject, floors}
+use Rattle.basics.specs.Limits.{longestObject, floors}
+use Rattle.basics.proofs.Bools.{and-true, true-or-false}
 use Rattle.listings.specs.Bytes.{Bytes}
 use Rattle.listings.specs.Calls.{firstNo}
 use Rattle.listings.specs.Listings.{Listing, StrictTotal}
 use Rattle.listings.specs.Places.{At}
-use Rattle.basics.proofs.Bools.{and-true, true-or-false}
 use Rattle.listings.proofs.Uniqueness.{unique}
 use Rattle.listings.proofs.Ranks.{place-is-rank}
 use Rattle.listings.proofs.Demand.{Lawful}

@@ -6,7 +6,7 @@ use mathlib.Core.List.{[], _∷_}
 use Prim.Native.Nat.{ℕ}
 use native.Mathlib.Nat.{mul-one}
 use lib.Dec.{leb, ltb, eqb}
-use Rattle.numbers.specs.Limits.{places}
+use Rattle.basics.specs.Limits.{places}
 use Rattle.numbers.specs.Numbers.{partitionsOf}
 use Rattle.listings.specs.Rows.{Row}
 use Rattle.listings.specs.Kept.{kept}

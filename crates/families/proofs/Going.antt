@@ -13,7 +13,7 @@ use lib.ListN.{length, getElem?}
 use borrow.Author.Tests.{lt-ltb}
 use types.Run.{OneOf}
 use denote.Enum.Declared.{tagOf}
-use Rattle.numbers.specs.Limits.{longestObject}
+use Rattle.basics.specs.Limits.{longestObject}
 use Rattle.listings.specs.Bytes.{Bytes}
 use Rattle.listings.specs.Places.{At, First}
 use Rattle.listings.specs.Calls.{COUNT, FIRST, NEXT, Answer, REFUSED, COUNTED, MEASURED, WRITTEN, STEPPED, Said, firstNo, judged, onward, stepped, act}

@@ -7,7 +7,7 @@ use Prim.Native.Nat.{ℕ, zero, suc, _+_}
 use native.Mathlib.Omega.{arith}
 use lib.Dec.{leb, eqb}
 use lib.ListN.{length, getD}
-use Rattle.numbers.specs.Limits.{places}
+use Rattle.basics.specs.Limits.{places}
 use Rattle.basics.specs.Sums.{total}
 use Rattle.listings.specs.Bytes.{Bytes}
 use Rattle.listings.specs.Listings.{Listing, Ascending}

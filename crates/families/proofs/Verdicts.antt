@@ -142,6 +142,10 @@ module _ (f : Family) (b : Lent) where
   unfolding asked isIn
   rank-passes size e fits h = passes RANK size true refl e (λ w. fits) h (λ w. refl) (λ w. absurd (false≢true w))
 
+  pub unrank-passes : (r size : ℕ) (holds : Bool) → firstNo (opening FIRST f b) ≡ none → countOf f b < 2 ^ 64 → size ≡ objectLength f b → r < countOf f b → refusal (UNRANK r) f b size holds ≡ none
+  unfolding asked isIn rankGiven
+  unrank-passes r size holds e fits h lt = passes (UNRANK r) size holds refl e (λ w. fits) h (λ w. absurd (false≢true w)) (λ w. lt)
+
   -- where the count fits, a step is asked what RANK is
 
   pub next-as-rank : (size : ℕ) (holds : Bool) → countOf f b < 2 ^ 64 → refusal RANK f b size holds ≡ refusal NEXT f b size holds
@@ -150,7 +154,3 @@ module _ (f : Family) (b : Lent) where
 
   pub previous-as-rank : (size : ℕ) (holds : Bool) → countOf f b < 2 ^ 64 → refusal RANK f b size holds ≡ refusal PREVIOUS f b size holds
   previous-as-rank size holds fits = next-as-rank size holds fits ∙ asks-enough .alike size holds
-
-  pub unrank-passes : (r size : ℕ) (holds : Bool) → firstNo (opening FIRST f b) ≡ none → countOf f b < 2 ^ 64 → size ≡ objectLength f b → r < countOf f b → refusal (UNRANK r) f b size holds ≡ none
-  unfolding asked isIn rankGiven
-  unrank-passes r size holds e fits h lt = passes (UNRANK r) size holds refl e (λ w. fits) h (λ w. absurd (false≢true w)) (λ w. lt)

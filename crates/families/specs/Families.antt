@@ -5,7 +5,7 @@ use mathlib.Core.List.{List, [], _∷_}
 use Prim.Native.Nat.{ℕ}
 use lib.Dec.{leb, eqb}
 use lib.ListN.{length, getD}
-use Rattle.numbers.specs.Limits.{floors}
+use Rattle.basics.specs.Limits.{floors}
 use Rattle.listings.specs.Bytes.{Bytes}
 use Rattle.listings.specs.Places.{countBefore}
 use Rattle.listings.specs.Rows.{Row}

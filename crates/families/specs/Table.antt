@@ -5,7 +5,7 @@ use mathlib.Core.List.{List, [], _∷_}
 use Prim.Native.Nat.{ℕ, _*_}
 use lib.Dec.{leb, ltb, eqb}
 use lib.ListN.{length, getD}
-use Rattle.numbers.specs.Limits.{places, branches}
+use Rattle.basics.specs.Limits.{places, branches}
 use Rattle.basics.specs.Sums.{total}
 use Rattle.numbers.specs.Numbers.{choose, multinomialOf, factorialOf, stirlingOf, partsFrom, catalanOf}
 use Rattle.listings.specs.Rows.{Row}

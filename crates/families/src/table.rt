@@ -4,7 +4,7 @@ ghost use mathlib.Core.Bool.{true, _&&_, _||_};
 ghost use mathlib.Core.List.{map};
 ghost use Prim.Native.Nat.{ℕ, _+_, min};
 ghost use lib.Dec.{leb, ltb, eqb};
-ghost use Rattle.numbers.specs.Limits.{places};
+ghost use Rattle.basics.specs.Limits.{places};
 ghost use Rattle.basics.specs.Sums.{total};
 ghost use Rattle.numbers.specs.Numbers.{stirlingOf};
 ghost use Rattle.counting.specs.Answers.{fits as fitsOf};
@@ -15,11 +15,11 @@ ghost use Rattle.families.specs.inner.Sizes.{sizeAs};
 ghost use Rattle.families.specs.inner.Bounds.{mostN, mostK};
 use crate::Family;
 use crate::Lists;
+use basics::BRANCHES;
+use basics::FLOORS;
+use basics::PLACES;
 use basics::sum_to_limit;
 use counting::Count;
-use numbers::BRANCHES;
-use numbers::FLOORS;
-use numbers::PLACES;
 
 // The last kind of the table.
 const LAST_KIND: u64 = 6;

@@ -4,11 +4,11 @@ use mathlib.Core.Bool.{Bool, _&&_, _||_}
 use Prim.Native.Nat.{ℕ, _*_}
 use lib.Dec.{leb, ltb, eqb}
 use borrow.Author.Tests.{leb-true}
-use Rattle.numbers.specs.Limits.{places}
+use Rattle.basics.specs.Limits.{places}
+use Rattle.basics.proofs.Bools.{and-true}
 use Rattle.numbers.specs.Numbers.{partsFrom}
 use Rattle.numbers.proofs.Positive.{parts-some}
 use Rattle.listings.specs.Rows.{RowLaws}
-use Rattle.basics.proofs.Bools.{and-true}
 use Rattle.integer_partitions.specs.Objects.{isIntegerPartition, integerPartitionBefore}
 use Rattle.integer_partitions.specs.Listing.{integerPartitions}
 use Rattle.integer_partitions.proofs.Theorem.{lists, long, counted}

@@ -10,10 +10,10 @@ use native.Mathlib.Omega.{arith}
 use lib.ListN.{length, getD, set, take, drop, List·getD-eq-default}
 use lib.Seq.{append-snoc, split-at, drop-cons, set-at, length-take-le, take-take, getD-take}
 use Rattle.basics.specs.Sums.{total}
+use Rattle.basics.specs.Limits.{places}
 use Rattle.basics.proofs.Lists.{head-drop}
 use Rattle.basics.proofs.Ranges.{in-range}
 use Rattle.basics.proofs.Totals.{total-end}
-use Rattle.numbers.specs.Limits.{places}
 use Rattle.listings.specs.Bytes.{Bytes}
 use Rattle.listings.specs.Places.{Follows, First, Last}
 use Rattle.listings.proofs.ChoicePlaces.{inside-choice, seam-choice, Tail, ends, then, tail-keeps}

@@ -5,7 +5,7 @@ use Prim.Native.Nat.{ℕ, zero, suc, _+_, _-_, _≤_, _<_, _^_}
 use native.Mathlib.Nat.{add-zero, add-suc, suc-add, sub-zero}
 use native.Mathlib.Decide.{decLe}
 use native.Mathlib.Omega.{arith}
-use Rattle.numbers.specs.Limits.{places}
+use Rattle.basics.specs.Limits.{places}
 use Rattle.numbers.specs.Numbers.{partsFrom, partitionsOf}
 use Rattle.numbers.proofs.Laws.{partitions-rule, partitions-none, partitions-zero, partitions-corner, floor-mono}
 

@@ -2,9 +2,9 @@
 ghost use mathlib.Core.Path.{_≡_};
 ghost use Prim.Native.Nat.{_+_, _≤_};
 ghost use lib.ListN.{length, replicate, take};
-ghost use Rattle.numbers.specs.Limits.{longestObject};
+ghost use Rattle.basics.specs.Limits.{longestObject};
 ghost use Rattle.basics.specs.Sums.{range};
-use numbers::LONGEST_OBJECT;
+use basics::LONGEST_OBJECT;
 
 // What NEXT and PREVIOUS answer: the object was replaced by its neighbour, or there is none and no byte changed.
 pub enum Step {

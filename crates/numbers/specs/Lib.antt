@@ -1,3 +1,2 @@
--- What a reader of the counts must believe: the limits of the table, and the counts as unbounded numbers.
-pub mod Limits
+-- What a reader of the counts must believe: the counts as unbounded numbers.
 pub mod Numbers

@@ -2,7 +2,7 @@
 // the stack where it is used, so that a call uses it once and lends it.
 ghost use mathlib.Core.Path.{_≡_};
 ghost use Prim.Native.Nat.{_≤_, _<_, _^_};
-ghost use Rattle.numbers.specs.Limits.{places};
+ghost use Rattle.basics.specs.Limits.{places};
 ghost use Rattle.numbers.specs.Numbers.{choose};
 ghost use Rattle.pascal.specs.inner.Triangle.{Triangle};
 

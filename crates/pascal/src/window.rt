@@ -2,13 +2,13 @@
 ghost use mathlib.Core.Path.{_≡_};
 ghost use Prim.Native.Nat.{ℕ, suc, _+_, _≤_, _<_, _^_};
 ghost use lib.ListN.{length, getD};
-ghost use Rattle.numbers.specs.Limits.{places};
+ghost use Rattle.basics.specs.Limits.{places};
 ghost use Rattle.numbers.specs.Numbers.{choose};
 ghost use Rattle.pascal.specs.inner.Triangle.{lastRow, Triangle};
 ghost use Rattle.pascal.specs.inner.Window.{width, back, Added};
 use crate::LAST_ROW;
 use crate::lent;
-use numbers::PLACES;
+use basics::PLACES;
 
 // As many entries as the last of these rows is worked out from: one more for each row.
 const WIDTH: usize = (PLACES - LAST_ROW) as usize + 1;

@@ -4,11 +4,11 @@ use mathlib.Core.Bool.{Bool, _&&_, _||_}
 use Prim.Native.Nat.{ℕ}
 use lib.Dec.{leb, ltb, eqb}
 use borrow.Author.Tests.{leb-true}
-use Rattle.numbers.specs.Limits.{places}
+use Rattle.basics.specs.Limits.{places}
+use Rattle.basics.proofs.Bools.{and-true}
 use Rattle.numbers.specs.Numbers.{stirlingOf}
 use Rattle.numbers.proofs.Positive.{stirling-some}
 use Rattle.listings.specs.Rows.{RowLaws}
-use Rattle.basics.proofs.Bools.{and-true}
 use Rattle.set_partitions.specs.Objects.{isSetPartition, setPartitionBefore}
 use Rattle.set_partitions.specs.Listing.{setPartitions}
 use Rattle.set_partitions.proofs.Theorem.{lists, long, counted}

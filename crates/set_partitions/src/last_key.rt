@@ -2,7 +2,7 @@
 // partitions with the last model alone in its block, and `joined` of those with it in a given block of the others.
 ghost use mathlib.Core.Path.{_≡_};
 ghost use Prim.Native.Nat.{_+_, _-_, _≤_, _<_, _^_};
-ghost use Rattle.numbers.specs.Limits.{places};
+ghost use Rattle.basics.specs.Limits.{places};
 ghost use Rattle.set_partitions.specs.Listing.{othersIn, blockOf};
 ghost use Rattle.set_partitions.specs.inner.Keys.{earlierBy, Placed, backBy};
 

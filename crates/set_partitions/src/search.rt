@@ -4,9 +4,9 @@ ghost use mathlib.Core.Bool.{cond};
 ghost use Prim.Native.Nat.{_≤_};
 ghost use lib.Dec.{ltb};
 ghost use lib.ListN.{length, take};
-ghost use Rattle.numbers.specs.Limits.{longestObject};
+ghost use Rattle.basics.specs.Limits.{longestObject};
 ghost use Rattle.set_partitions.specs.Objects.{keys as keysIn};
-use numbers::LONGEST_OBJECT;
+use basics::LONGEST_OBJECT;
 
 // The key of a model in block b, behind models in the blocks 1 to `used`.
 pub fn key_of(used: u8, b: u8) -> u8

@@ -3,7 +3,7 @@ ghost use mathlib.Core.Path.{_≡_};
 ghost use mathlib.Core.Bool.{true, false, not};
 ghost use Prim.Native.Nat.{_≤_, max};
 ghost use lib.ListN.{length};
-ghost use Rattle.numbers.specs.Limits.{places};
+ghost use Rattle.basics.specs.Limits.{places};
 ghost use Rattle.listings.specs.Calls.{Said, act};
 ghost use Rattle.listings.specs.Directions.{stepCall, Edge};
 ghost use Rattle.listings.specs.Steps.{stepAs};

@@ -8,7 +8,7 @@ use Prim.Native.Nat.{ℕ, zero, suc, _+_, _*_, _≤_}
 use native.Mathlib.Omega.{arith}
 use lib.Dec.{ltb, eqb}
 use lib.ListN.{length, take, length-append, length-take}
-use Rattle.numbers.specs.Limits.{longestObject}
+use Rattle.basics.specs.Limits.{longestObject}
 use Rattle.listings.specs.Bytes.{Bytes}
 use Rattle.listings.specs.Calls.{COUNT}
 use Rattle.families.specs.declared.Family.{Family}

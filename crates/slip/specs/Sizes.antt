@@ -1,7 +1,7 @@
 -- How many objects are listed at most, and how long the lines, the longest slip and the longest text are (SCOPE 7).
 -- Assumes nothing.
 use Prim.Native.Nat.{ℕ, _+_, _*_}
-use Rattle.numbers.specs.Limits.{longestObject}
+use Rattle.basics.specs.Limits.{longestObject}
 use Rattle.columns.specs.Fields.{fieldWidth, largestField}
 
 -- "the count in 20", "rank in 20 columns", "the line END, right-justified in 20 columns" (SCOPE 7.4)

@@ -1,6 +1,6 @@
 // How long lines, slips and texts are, as specs/Sizes.antt says.
+use basics::LONGEST_OBJECT;
 use columns::fields;
-use numbers::LONGEST_OBJECT;
 
 // A field of the slip, and a byte of an object.
 pub const FIELD_WIDTH: usize = fields::WIDTH;

@@ -10,9 +10,9 @@ use native.Mathlib.Omega.{arith}
 use lib.Dec.{leb, ltb, eqb}
 use lib.ListN.{getD}
 use borrow.Author.Tests.{eqb-true, leb-true, lt-ltb}
-use Rattle.numbers.specs.Limits.{places}
-use Rattle.numbers.specs.Numbers.{stirlingOf}
+use Rattle.basics.specs.Limits.{places}
 use Rattle.basics.specs.Sums.{range}
+use Rattle.numbers.specs.Numbers.{stirlingOf}
 use Rattle.numbers.proofs.Stirlings.{stirling-weighted}
 use Rattle.numbers.proofs.Triangles.{row}
 use Rattle.numbers.proofs.Weighted.{step}

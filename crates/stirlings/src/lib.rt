@@ -3,10 +3,10 @@
 ghost use mathlib.Core.Path.{_≡_};
 ghost use Prim.Native.Nat.{ℕ, suc, _+_, _-_, _*_, _≤_, _<_, _^_};
 ghost use lib.Dec.{ltb};
-ghost use Rattle.numbers.specs.Limits.{places};
+ghost use Rattle.basics.specs.Limits.{places};
 ghost use Rattle.numbers.specs.Numbers.{stirlingOf};
 ghost use Rattle.stirlings.specs.inner.Band.{capacity, Filled, LastColumn, Row};
-use numbers::PLACES;
+use basics::PLACES;
 use stirling_rows::LAST_ROW;
 use stirling_rows::entry;
 

@@ -4,11 +4,11 @@ use mathlib.Core.Bool.{Bool, _&&_}
 use Prim.Native.Nat.{ℕ}
 use lib.Dec.{leb}
 use borrow.Author.Tests.{leb-true}
-use Rattle.numbers.specs.Limits.{places}
+use Rattle.basics.specs.Limits.{places}
+use Rattle.basics.proofs.Bools.{and-true}
 use Rattle.numbers.specs.Numbers.{choose}
 use Rattle.numbers.proofs.Positive.{choose-some}
 use Rattle.listings.specs.Rows.{RowLaws}
-use Rattle.basics.proofs.Bools.{and-true}
 use Rattle.subsets.specs.Objects.{isSubset, subsetBefore}
 use Rattle.subsets.specs.Listing.{subsets}
 use Rattle.subsets.proofs.Theorem.{lists, long, counted}

@@ -3,7 +3,7 @@ ghost use mathlib.Core.Path.{_≡_};
 ghost use mathlib.Core.Bool.{true};
 ghost use Prim.Native.Nat.{_≤_, _<_, _^_};
 ghost use lib.ListN.{length};
-ghost use Rattle.numbers.specs.Limits.{places};
+ghost use Rattle.basics.specs.Limits.{places};
 ghost use Rattle.numbers.specs.Numbers.{choose};
 ghost use Rattle.listings.specs.Calls.{NEXT, PREVIOUS, Said, act};
 ghost use Rattle.listings.specs.Places.{At, First, Last, countBefore};

@@ -29,6 +29,7 @@ ghost use lib.ListN.{length};
 mod calls;
 mod walks;
 
+use basics::LONGEST_OBJECT;
 use calls::Heard;
 use calls::answer;
 use calls::call;
@@ -36,7 +37,6 @@ use calls::is_put;
 use calls::title;
 use families::Family;
 use families::Lists;
-use numbers::LONGEST_OBJECT;
 use test_support::behind;
 use test_support::bytes;
 use test_support::decimal;

@@ -7,11 +7,11 @@
 // numbers, factorials for multinomials, the alternating sum over binomials for Stirling numbers (not their recursion), and for partitions one part
 // size after the other from the floor up, counting the parts. Of these the sums over k are held to Euler's pentagonal recurrence.
 ghost use Prim.Native.Nat.{_≤_, _+_};
-ghost use Rattle.numbers.specs.Limits.{places};
+ghost use Rattle.basics.specs.Limits.{places};
+use basics::LONGEST_OBJECT;
+use basics::PLACES;
 use counting::Count;
 use libc::STDIN_FILENO;
-use numbers::LONGEST_OBJECT;
-use numbers::PLACES;
 use test_support::behind;
 use test_support::decimal;
 use test_support::list;

@@ -13,9 +13,9 @@
 // every kind.
 ghost use Prim.Native.Nat.{_≤_};
 ghost use lib.ListN.{length};
+use basics::LONGEST_OBJECT;
 use families::Family;
 use families::Lists;
-use numbers::LONGEST_OBJECT;
 use replay::Replayed;
 use test_support::behind;
 use test_support::bytes;

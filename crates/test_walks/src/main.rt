@@ -20,11 +20,11 @@
 ghost use mathlib.Core.Path.{_≡_};
 ghost use Prim.Native.Nat.{_≤_};
 ghost use lib.ListN.{length, take};
+use basics::LONGEST_OBJECT;
 use families::Family;
 use families::Lists;
 use families::Ranked;
 use families::codes;
-use numbers::LONGEST_OBJECT;
 use test_support::behind;
 use test_support::bytes;
 use test_support::decimal;

@@ -9,7 +9,7 @@ use native.Mathlib.Omega.{arith}
 use native.Mathlib.Decide.{decLt}
 use lib.Dec.{ltb, eqb}
 use borrow.Author.Tests.{lt-ltb, le-ltb, ltb-true, ne-eqb}
-use Rattle.numbers.specs.Limits.{longestObject}
+use Rattle.basics.specs.Limits.{longestObject}
 use Rattle.listings.specs.Calls.{RANK, Question, firstNo}
 use Rattle.families.specs.declared.Family.{Family}
 use Rattle.families.specs.Table.{Lent}

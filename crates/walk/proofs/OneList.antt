@@ -8,11 +8,11 @@ use native.Mathlib.Omega.{arith}
 use lib.Dec.{leb, eqb}
 use lib.ListN.{length, getD}
 use borrow.Author.Tests.{eqb-true}
-use Rattle.numbers.specs.Limits.{places}
+use Rattle.basics.specs.Limits.{places}
 use Rattle.basics.specs.Sums.{total}
+use Rattle.basics.proofs.Bools.{and-true}
 use Rattle.listings.specs.Bytes.{Bytes}
 use Rattle.listings.specs.Rows.{Row}
-use Rattle.basics.proofs.Bools.{and-true}
 use Rattle.anagrams.specs.Objects.{occurrences, tallies, isAnagram}
 use Rattle.families.specs.declared.Family.{Family}
 use Rattle.families.specs.Table.{Lent, noCounts, anagramRow, noRow, table}

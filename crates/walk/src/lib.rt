@@ -6,7 +6,7 @@ ghost use mathlib.Core.Option.{some};
 ghost use mathlib.Core.List.{map};
 ghost use Prim.Native.Nat.{ℕ, _<_, _^_};
 ghost use lib.ListN.{length};
-ghost use Rattle.numbers.specs.Limits.{longestObject};
+ghost use Rattle.basics.specs.Limits.{longestObject};
 ghost use Rattle.listings.specs.Bytes.{Bytes};
 ghost use Rattle.listings.specs.Calls.{Answer, Said};
 ghost use Rattle.families.specs.Table.{lent};
@@ -17,6 +17,7 @@ ghost use Rattle.families.specs.Answers.{rankedAs, steppedAs};
 ghost use Rattle.walk.specs.declared.Walk.{Walk as WalkOf};
 ghost use Rattle.walk.specs.Walks.{callOf, kept, Outcome, stepRefusal, stepKept, stepWalk, startOf, wayOf, runOf};
 ghost use Rattle.walk.specs.declared.Way.the-variants.{Forth, Back};
+use basics::LONGEST_OBJECT;
 use families::Call;
 use families::Family;
 use families::Lists;
@@ -24,7 +25,6 @@ use families::Ranked;
 use families::Stepped;
 use families::Verdict;
 use families::codes;
-use numbers::LONGEST_OBJECT;
 
 // The way a step goes: as NEXT or as PREVIOUS.
 pub enum Way {

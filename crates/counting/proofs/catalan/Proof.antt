@@ -4,7 +4,7 @@ use mathlib.Core.Path.{sym, _∙_}
 use native.Mathlib.Omega.{arith}
 use borrow.Author.Needs.{needs}
 use borrow.Author.Tests.{le-leb, lt-leb}
-use Rattle.numbers.specs.Limits.{branches}
+use Rattle.basics.specs.Limits.{branches}
 use Rattle.numbers.proofs.Catalans.{catalan-small, catalan-large}
 use Rattle.counting.proofs.Answers.{exactly-within, large-within, within-out, if-small}
 use Rattle.counting.proofs.catalan.Statement.{statement}

@@ -3,7 +3,7 @@
 use mathlib.Core.Path.{sym, _∙_}
 use native.Mathlib.Omega.{arith}
 use borrow.Author.Needs.{needs}
-use Rattle.numbers.specs.Limits.{places}
+use Rattle.basics.specs.Limits.{places}
 use Rattle.counting.proofs.Answers.{within-in, within-out, both-in, first-out, second-out}
 use Rattle.counting.proofs.coefficient.Statement.{statement}
 use Rattle.counting.proofs.coefficient.Tie as tie

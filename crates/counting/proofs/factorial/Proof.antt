@@ -4,7 +4,7 @@ use borrow.Author.Needs.{needs}
 use mathlib.Core.Path.{sym}
 use native.Mathlib.Omega.{arith}
 use borrow.Author.Tests.{le-leb, lt-leb}
-use Rattle.numbers.specs.Limits.{places}
+use Rattle.basics.specs.Limits.{places}
 use Rattle.numbers.proofs.Factorials.{factorial-small, factorial-large}
 use Rattle.counting.proofs.Answers.{exactly-within, large-within, within-out}
 use Rattle.counting.proofs.factorial.Statement.{statement}

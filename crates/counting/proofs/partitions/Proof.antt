@@ -7,7 +7,7 @@ use Prim.Native.Nat.{ℕ, _≤_, _<_}
 use native.Mathlib.Omega.{arith}
 use lib.Dec.{leb}
 use borrow.Author.Tests.{le-leb, lt-leb}
-use Rattle.numbers.specs.Limits.{places, floors}
+use Rattle.basics.specs.Limits.{places, floors}
 use Rattle.counting.proofs.Answers.{within-out, exactly-within, both-in, first-out, second-out}
 use Rattle.counting.proofs.partitions.Statement.{statement}
 use Rattle.counting.proofs.partitions.Tie as tie

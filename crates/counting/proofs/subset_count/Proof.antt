@@ -4,7 +4,7 @@ use mathlib.Core.Path.{sym, _∙_}
 use native.Mathlib.Omega.{arith}
 use borrow.Author.Needs.{needs}
 use borrow.Author.Tests.{ltb-true, ltb-false, not-true, not-false}
-use Rattle.numbers.specs.Limits.{places}
+use Rattle.basics.specs.Limits.{places}
 use Rattle.counting.proofs.Answers.{within-out, exactly-within, large-within, both-in, first-out, second-out}
 use Rattle.counting.proofs.subset_count.Statement.{statement}
 use Rattle.counting.proofs.subset_count.Tie as tie

@@ -4,7 +4,7 @@ use mathlib.Core.Path.{sym}
 use Prim.Native.Nat.{_≤_}
 use native.Mathlib.Omega.{arith}
 use lib.ListN.{length}
-use Rattle.numbers.specs.Limits.{longestObject}
+use Rattle.basics.specs.Limits.{longestObject}
 use Rattle.listings.proofs.Ranks.{place-is-rank}
 use Rattle.dyck_words.proofs.Theorem.{lists, long}
 use Rattle.dyck_ranks.proofs.rank.Statement.{statement}

@@ -3,7 +3,7 @@
 use mathlib.Core.Bool.{cond, _||_}
 use Prim.Native.Nat.{ℕ}
 use lib.Dec.{eqb}
-use Rattle.numbers.specs.Limits.{places, branches}
+use Rattle.basics.specs.Limits.{places, branches}
 
 abbrev pub mostN : ℕ → ℕ
 mostN kind = cond (eqb kind 6) branches places

@@ -3,7 +3,6 @@
 use mathlib.Core.Path.{_≡_}
 use mathlib.Core.Bool.{true}
 use Prim.Native.Nat.{ℕ, _+_, _-_, _≤_, _<_, _^_}
-use native.Mathlib.Nat.{zero-add}
 use native.Mathlib.Omega.{arith}
 use lib.ListN.{length, take}
 use lib.Seq.{take-length}
@@ -22,6 +21,13 @@ Inv-loop n object before₀ place₀ before place =
 abbrev μ-loop : tie.MeasureT-loop
 μ-loop n object before₀ place₀ before place = place
 
+-- before the first turn all numbers are left
+loop-holds : tie.Need-loop-holds Inv-loop μ-loop
+loop-holds c =
+    let x = c .before .args .object .now in
+    let whole : rankOf (c .before .args .n) (length x) x ≡ countBefore subsetBefore x (subsets (c .before .args .n) (length x)) = rw take-length in
+    (c .before .args .n, omega arith, omega arith, omega (arith, whole), rw (take-length x) (c .before .pre .1 .0))
+
 -- the number read, b, is the last of those that are left
 last : (c : tie.After-wide Inv-loop μ-loop) → let at = c .before .before .before .loop in Parted (at .inv .0) (at .place) (at .place - 1) (c .wide .result) (c .before .before .before .before .before .args .object .now)
 last c = let at = c .before .before .before .loop in parted (at .inv .0) (at .place) (at .place - 1) (c .wide .result) _ (at .inv .4) (omega arith) (omega arith) (c .wide .ensures)
@@ -29,13 +35,16 @@ last c = let at = c .before .before .before .loop in parted (at .inv .0) (at .pl
 fits : (c : tie.After-wide Inv-loop μ-loop) → let at = c .before .before .before .loop in at .before + choose (c .wide .result - 1) (at .place) < 2 ^ 64
 fits c = let s = c .before .before .before .before .before in omega (arith, last c .rank, below-count (s .args .n) (length (s .args .object .now)) (s .args .object .now) (s .pre .1 .0))
 
+loop-again : tie.Need-loop-again Inv-loop μ-loop
+loop-again c = let p = last (c .before) in (c .before .wide .result - 1, omega (arith, p .high), omega arith, omega (arith, p .rank), p .front)
+
 pub rank-spec : {M : Type 1} → statement M
 rank-spec =
     tie.close
     (tie.spec
     Inv-loop
     μ-loop
-    (λ c. (c .before .args .n, omega arith, omega arith, rw (zero-add, take-length (c .before .args .object .now)), rw (take-length (c .before .args .object .now)) (c .before .pre .1 .0)))
+    loop-holds
     (λ c. omega arith)
     (λ c. omega arith)
     (λ c κs. tt)
@@ -44,5 +53,5 @@ rank-spec =
     (λ c. record { fits = omega (arith, fits (c .before)) })
     (λ c. omega arith)
     (λ c. omega arith)
-    (λ c. let p = last (c .before) in (c .before .wide .result - 1, omega (arith, p .high), omega arith, omega (arith, p .rank), p .front))
+    loop-again
     (λ c. omega (arith, rank-of-none _ _ _ (c .before .loop .inv .4) (omega arith))))

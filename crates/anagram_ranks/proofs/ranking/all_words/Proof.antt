@@ -5,8 +5,8 @@ use mathlib.Core.Path.{_≡_, _∙_, sym}
 use native.Mathlib.Omega.{arith}
 use borrow.Author.Tests.{le-leb}
 use borrow.Author.Needs.{needs}
+use Rattle.basics.specs.Limits.{places}
 use Rattle.numbers.specs.Numbers.{multinomialOf}
-use Rattle.numbers.specs.Limits.{places}
 use Rattle.counting.specs.Answers.{fits}
 use Rattle.counting.proofs.Answers.{fits-small, within-in, exactly}
 use Rattle.anagram_ranks.proofs.ranking.all_words.Statement.{statement}

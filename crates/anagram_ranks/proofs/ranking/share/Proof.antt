@@ -2,7 +2,7 @@
 -- Assumes nothing.
 use native.Mathlib.Omega.{arith}
 use borrow.Author.Needs.{needs}
-use Rattle.numbers.specs.Limits.{places}
+use Rattle.basics.specs.Limits.{places}
 use Rattle.anagram_ranks.proofs.Ranks.{rest-le, share-fits, share-parts}
 use Rattle.anagram_ranks.proofs.ranking.share.Statement.{statement}
 use Rattle.anagram_ranks.proofs.ranking.share.Tie as tie

@@ -28,7 +28,7 @@ spent : tie.Need-loop-again Inv-loop μ-loop
 spent c =
     let l = c .before .before .before .before .before .before .before .loop in
     let off = letter-spent (l .left) (c .before .before .before .before .before .before .before .before .before .before .args .object .now) (l .i) (omega arith) (omega arith) (omega arith) in
-    (omega arith, (simp length-set (l .inv .1 .0), l .inv .1 .1 ∙ rw one-less-set off))
+    (omega arith, (simp length-set (l .inv .1 .0), l .inv .1 .1 ∙ rw (← one-less-set) at off))
 
 pub spend-all-spec : {M : Type 1} → statement M
 spend-all-spec =

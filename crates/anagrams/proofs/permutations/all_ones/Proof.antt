@@ -1,7 +1,7 @@
 -- `anagrams::permutations::all_ones` meets its contract.
 -- Assumes nothing.
 use mathlib.Core.Path.{refl}
-use Rattle.numbers.specs.Limits.{longestObject}
+use Rattle.basics.specs.Limits.{longestObject}
 use Rattle.basics.proofs.Lists.{take-replicate}
 use Rattle.anagrams.proofs.permutations.all_ones.Statement.{statement}
 use Rattle.anagrams.proofs.permutations.all_ones.Tie as tie

@@ -10,8 +10,9 @@ use lib.Seq.{drop-cons, drop-length}
 use types.Run.{OneOf}
 use denote.Enum.Declared.{tagOf}
 use borrow.Author.Needs.{needs}
-use Rattle.numbers.specs.Limits.{places}
+use Rattle.basics.specs.Limits.{places}
 use Rattle.basics.specs.Sums.{total}
+use Rattle.basics.proofs.Totals.{total-drop-le}
 use Rattle.numbers.specs.Numbers.{choose, multinomialOf}
 use Rattle.counting.specs.declared.Count.{Count}
 use Rattle.counting.specs.declared.Count.the-variants.{Exactly, TooLarge}
@@ -19,7 +20,6 @@ use Rattle.counting.specs.Answers.{fits}
 use Rattle.counting.proofs.Count.{the-type}
 use Rattle.counting.proofs.Answers.{exactly, not-exact, fits-small, fits-large}
 use Rattle.numbers.proofs.Multinomials.{drop-le, head-le}
-use Rattle.basics.proofs.Totals.{total-drop-le}
 use Rattle.counting.proofs.product.of_binomials.Statement.{statement}
 use Rattle.counting.proofs.product.of_binomials.Tie as tie
 

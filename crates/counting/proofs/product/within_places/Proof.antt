@@ -5,7 +5,7 @@ use Prim.Native.Nat.{ℕ}
 use lib.Dec.{leb}
 use borrow.Author.Needs.{needs}
 use Rattle.basics.specs.Sums.{total}
-use Rattle.numbers.specs.Limits.{places}
+use Rattle.basics.specs.Limits.{places}
 use Rattle.basics.proofs.Totals.{to-limit}
 use Rattle.counting.proofs.product.within_places.Statement.{statement}
 use Rattle.counting.proofs.product.within_places.Tie as tie

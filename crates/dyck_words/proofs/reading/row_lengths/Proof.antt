@@ -4,7 +4,7 @@ use mathlib.Core.Path.{_≡_, refl, _∙_}
 use Prim.Native.Nat.{_+_, _-_, _≤_}
 use native.Mathlib.Omega.{arith}
 use lib.ListN.{length, length-set, drop}
-use Rattle.numbers.specs.Limits.{longestObject}
+use Rattle.basics.specs.Limits.{longestObject}
 use Rattle.dyck_words.specs.inner.Reading.{Told}
 use Rattle.dyck_words.proofs.RowTable.{told-none, told-more, told-all}
 use Rattle.dyck_words.proofs.reading.row_lengths.Statement.{statement}

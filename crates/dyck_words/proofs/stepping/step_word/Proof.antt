@@ -5,7 +5,7 @@ use Prim.Native.Nat.{_≤_}
 use native.Mathlib.Omega.{arith}
 use lib.ListN.{length}
 use borrow.Author.Needs.{needs}
-use Rattle.numbers.specs.Limits.{longestObject}
+use Rattle.basics.specs.Limits.{longestObject}
 use Rattle.dyck_words.specs.Trees.{word, parse}
 use Rattle.dyck_words.proofs.Facts.{dyck-cases}
 use Rattle.dyck_words.proofs.Theorem.{long}

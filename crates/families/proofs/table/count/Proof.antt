@@ -5,7 +5,7 @@ use lib.Dec.{leb}
 use lib.ListN.{List·getD-map}
 use denote.Ref.{now}
 use borrow.Author.Needs.{needs}
-use Rattle.numbers.specs.Limits.{places, branches}
+use Rattle.basics.specs.Limits.{places, branches}
 use Rattle.basics.proofs.Bools.{and-true, and-makes}
 use Rattle.families.specs.Table.{lent}
 use Rattle.families.proofs.FamilyFacts.{has-arm, floor-within}

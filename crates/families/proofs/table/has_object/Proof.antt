@@ -6,7 +6,7 @@ use native.Mathlib.Omega.{arith}
 use lib.Dec.{leb}
 use borrow.Author.Needs.{needs}
 use borrow.Author.Tests.{leb-true}
-use Rattle.numbers.specs.Limits.{places, floors}
+use Rattle.basics.specs.Limits.{places, floors}
 use Rattle.basics.proofs.Bools.{and-true}
 use Rattle.families.specs.Families.{row}
 use Rattle.families.proofs.FamilyFacts.{has-arm, floor-positive, floor-most}

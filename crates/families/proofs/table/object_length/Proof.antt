@@ -9,7 +9,7 @@ use lib.ListN.{List·getD-map}
 use denote.Ref.{now}
 use borrow.Author.Tests.{leb-true}
 use borrow.Author.Needs.{needs}
-use Rattle.numbers.specs.Limits.{places, branches}
+use Rattle.basics.specs.Limits.{places, branches}
 use Rattle.basics.specs.Sums.{total}
 use Rattle.families.specs.Table.{lent}
 use Rattle.families.specs.Families.{row, objectLength}

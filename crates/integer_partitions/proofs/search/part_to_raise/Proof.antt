@@ -8,7 +8,7 @@ use native.Mathlib.Omega.{arith}
 use lib.ListN.{length, getD, take}
 use borrow.Author.Needs.{needs}
 use borrow.Author.Count.{below-more}
-use Rattle.numbers.specs.Limits.{places}
+use Rattle.basics.specs.Limits.{places}
 use Rattle.basics.specs.Sums.{total}
 use Rattle.basics.proofs.Totals.{total-take-more, total-split, total-end}
 use Rattle.integer_partitions.proofs.search.part_to_raise.Statement.{statement}

@@ -7,7 +7,7 @@ use Prim.Native.Nat.{ℕ, _-_, _≤_, max}
 use native.Mathlib.Omega.{arith}
 use lib.ListN.{length, take, drop, getD, length-set}
 use borrow.Author.Needs.{needs}
-use Rattle.numbers.specs.Limits.{places}
+use Rattle.basics.specs.Limits.{places}
 use Rattle.listings.specs.Bytes.{Bytes}
 use Rattle.set_partitions.specs.Objects.{keys as keysIn}
 use Rattle.set_partitions.proofs.KeyReading.{key-stored, all-stored}

@@ -8,7 +8,7 @@ use lib.ListN.{length, take, replicate}
 use lib.Seq.{length-take-le}
 use denote.Ref.{now}
 use borrow.Author.Needs.{needs}
-use Rattle.numbers.specs.Limits.{longestObject}
+use Rattle.basics.specs.Limits.{longestObject}
 use Rattle.families.specs.Table.{lent}
 use Rattle.families.proofs.Going.{Told, length-known, length-not-refused}
 use Rattle.slip.proofs.listing.put_body.Statement.{statement}

@@ -4,7 +4,7 @@ use mathlib.Core.Path.{_≡_, sym}
 use native.Mathlib.Omega.{arith}
 use lib.ListN.{length}
 use lib.Seq.{length-take-le}
-use Rattle.numbers.specs.Limits.{longestObject}
+use Rattle.basics.specs.Limits.{longestObject}
 use Rattle.walk.proofs.Arrays.{handed-back, front-stepped}
 use borrow.Author.Needs.{needs}
 use Rattle.walk.proofs.Walk.step.Statement.{statement}
