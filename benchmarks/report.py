@@ -188,7 +188,7 @@ say("Method. `benchmarks/measure.c` calls the library (`rt staticlib arrangement
     "GSL's steps follow its validity check and go by dictionary; SymPy's are its nearest functions (all partitions rather than those with k parts;",
     "its subsets' rank, which lists, only for the small family). PARI's are numtoperm and permtonum, GAP's is Binomial.",
     *(["Before is an earlier build of the library, linked beside today's and measured in turn with it. Both begin on a page, so that code that is the",
-       "same lies the same: elsewhere within a line of 64 bytes it takes up to a quarter more. It knows no floor but 1."] if earlier else []), "")
+       "same lies the same: elsewhere within a line of 64 bytes it takes up to a quarter more."] if earlier else []), "")
 say("## Targets", "")
 targets()
 say("", "Why, by the profile:", "",
