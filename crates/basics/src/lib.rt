@@ -15,6 +15,7 @@ pub const FLOORS: u64 = 80;
 // The room that any object needs.
 pub const LONGEST_OBJECT: usize = PLACES as usize;
 
+// A byte as a number, in a function of its own: its callers' proofs read the number and not the cast.
 pub fn wide(b: u8) -> u64
     ensures { λ r. ⌜ r ≡ b ⌝ }
 {
