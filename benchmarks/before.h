@@ -18,8 +18,7 @@ static inline before_family before_family_of(arrangement_family f) {
 
 /* Can it be asked about this family? Only where what it has no field for is the default. */
 static inline int before_answers(arrangement_family f) {
-    (void)f;
-    return 1;
+    return f.edition == 1;
 }
 #else
 typedef arrangement_family before_family;

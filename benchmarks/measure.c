@@ -17,7 +17,7 @@ enum { POOL = 256, PLACES = 80 };
 typedef struct {
     const char *name; /* the family, as the table shows it */
     const char *pool; /* which objects: random ones, or the one that costs most */
-    uint64_t kind, n, k, floor;
+    uint64_t kind, n, k, floor, edition;
     uint8_t counts[PLACES];
     size_t letters, len;
     int ranks; /* does the count fit? */
@@ -120,21 +120,26 @@ static int64_t distance(uint64_t from, uint64_t to) {
 }
 
 static void fill_pool(const Family *f) {
+    static uint64_t start;
     uint64_t count = 0;
+    /* edition 2 is measured on the objects and ranks of edition 1, which stands in front of it */
+    if (f->edition == 1) start = state;
+    else state = start;
     family = arrangement_family_of(f->kind, f->n, f->k);
     family.floor = f->floor;
+    family.edition = f->edition;
     earlier = before_family_of(family);
     lists = arrangement_counts(f->counts, f->letters);
-    if (f->ranks) plain_count(f->kind, f->n, f->k, f->floor, f->counts, f->letters, &count);
+    if (f->ranks) plain_count(f->kind, f->n, f->k, f->floor, f->edition, f->counts, f->letters, &count);
     for (int i = 0; i < POOL; i++) {
         ranks[i] = count ? random_number() % count : 0;
         if (f->pool[0] == 'c') costly(f, pool[i]);
         else if (f->kind == 1) random_subset(f, pool[i]);
         else if (f->kind == 2 || f->kind == 3) random_word(f, pool[i]);
         else if (f->kind == 4) random_blocks(f, pool[i]);
-        else if (f->kind == 5) plain_unrank(5, f->n, f->k, f->floor, f->counts, 0, ranks[i], pool[i], f->len);
+        else if (f->kind == 5) plain_unrank(5, f->n, f->k, f->floor, f->edition, f->counts, 0, ranks[i], pool[i], f->len);
         else random_dyck(f, pool[i]);
-        if (f->ranks) plain_rank(f->kind, f->n, f->k, f->floor, f->counts, f->letters, pool[i], f->len, &numbers[i]);
+        if (f->ranks) plain_rank(f->kind, f->n, f->k, f->floor, f->edition, f->counts, f->letters, pool[i], f->len, &numbers[i]);
         distances[i] = distance(numbers[i], ranks[i]);
         gsl_take(i, pool[i], f->len);
     }
@@ -157,8 +162,8 @@ __attribute__((noinline)) static uint64_t jump(Who who, const Family *f, int64_t
     uint32_t code;
     if (who == LIBRARY) return arrangement_jump(family, &lists, d, x, f->len);
     if (who == PLAIN) {
-        code = plain_rank(f->kind, f->n, f->k, f->floor, f->counts, f->letters, x, f->len, &rank);
-        return code + plain_unrank(f->kind, f->n, f->k, f->floor, f->counts, f->letters, rank + (uint64_t)d, x, f->len);
+        code = plain_rank(f->kind, f->n, f->k, f->floor, f->edition, f->counts, f->letters, x, f->len, &rank);
+        return code + plain_unrank(f->kind, f->n, f->k, f->floor, f->edition, f->counts, f->letters, rank + (uint64_t)d, x, f->len);
     }
     code = arrangement_count(family, &lists, &count) + arrangement_rank(family, &lists, x, f->len, &rank);
     to = rank + (uint64_t)d;
@@ -189,11 +194,11 @@ static uint64_t call(Who who, Call c, const Family *f, int i, uint8_t *x) {
         default: break;
         }
     else if (who == PLAIN) switch (c) {
-        case COUNT: code = plain_count(f->kind, f->n, f->k, f->floor, counts, f->letters, &value); break;
-        case NEXT: code = plain_next(f->kind, f->n, f->k, f->floor, counts, f->letters, x, f->len); break;
-        case PREVIOUS: code = plain_previous(f->kind, f->n, f->k, f->floor, counts, f->letters, x, f->len); break;
-        case RANK: code = plain_rank(f->kind, f->n, f->k, f->floor, counts, f->letters, x, f->len, &value); break;
-        case UNRANK: code = plain_unrank(f->kind, f->n, f->k, f->floor, counts, f->letters, ranks[i], x, f->len); break;
+        case COUNT: code = plain_count(f->kind, f->n, f->k, f->floor, f->edition, counts, f->letters, &value); break;
+        case NEXT: code = plain_next(f->kind, f->n, f->k, f->floor, f->edition, counts, f->letters, x, f->len); break;
+        case PREVIOUS: code = plain_previous(f->kind, f->n, f->k, f->floor, f->edition, counts, f->letters, x, f->len); break;
+        case RANK: code = plain_rank(f->kind, f->n, f->k, f->floor, f->edition, counts, f->letters, x, f->len, &value); break;
+        case UNRANK: code = plain_unrank(f->kind, f->n, f->k, f->floor, f->edition, counts, f->letters, ranks[i], x, f->len); break;
         default: break;
         }
     else if (who == CPP) code = c == NEXT ? cpp_next(x, f->len) : cpp_previous(x, f->len);
@@ -266,58 +271,63 @@ static void measure(const Who *who, int number, Call c, const Family *f, int cou
 }
 
 static const Family FAMILIES[] = {
-    {"1 subsets (8, 4)", "random", 1, 8, 4, 1, {0}, 0, 4, 1},
-    {"1 subsets (40, 20)", "random", 1, 40, 20, 1, {0}, 0, 20, 1},
-    {"1 subsets (67, 33)", "random", 1, 67, 33, 1, {0}, 0, 33, 1},
-    {"1 subsets (80, 21)", "random", 1, 80, 21, 1, {0}, 0, 21, 1},
-    {"1 subsets (80, 40)", "random", 1, 80, 40, 1, {0}, 0, 40, 0},
-    {"2 anagrams 3 2 2 1", "random", 2, 4, 0, 1, {3, 2, 2, 1}, 4, 8, 1},
-    {"2 anagrams 10 times 2", "random", 2, 10, 0, 1, {2, 2, 2, 2, 2, 2, 2, 2, 2, 2}, 10, 20, 1},
-    {"2 anagrams 70 5 3 2", "random", 2, 4, 0, 1, {70, 5, 3, 2}, 4, 80, 1},
-    {"2 anagrams 16 times 5", "random", 2, 16, 0, 1, {5, 5, 5, 5, 5, 5, 5, 5, 5, 5, 5, 5, 5, 5, 5, 5}, 16, 80, 0},
-    {"3 permutations 8", "random", 3, 8, 0, 1, {0}, 0, 8, 1},
-    {"3 permutations 14", "random", 3, 14, 0, 1, {0}, 0, 14, 1},
-    {"3 permutations 20", "random", 3, 20, 0, 1, {0}, 0, 20, 1},
-    {"3 permutations 80", "random", 3, 80, 0, 1, {0}, 0, 80, 0},
-    {"4 set partitions (8, 3)", "random", 4, 8, 3, 1, {0}, 0, 8, 1},
-    {"4 set partitions (16, 5)", "random", 4, 16, 5, 1, {0}, 0, 16, 1},
-    {"4 set partitions (26, 9)", "random", 4, 26, 9, 1, {0}, 0, 26, 1},
-    {"4 set partitions (80, 75)", "random", 4, 80, 75, 1, {0}, 0, 80, 1},
-    {"4 set partitions (80, 40)", "random", 4, 80, 40, 1, {0}, 0, 80, 0},
-    {"5 integer partitions (12, 4)", "random", 5, 12, 4, 1, {0}, 0, 4, 1},
-    {"5 integer partitions (40, 10)", "random", 5, 40, 10, 1, {0}, 0, 10, 1},
-    {"5 integer partitions (80, 18)", "random", 5, 80, 18, 1, {0}, 0, 18, 1},
-    {"5 integer partitions (80, 60)", "random", 5, 80, 60, 1, {0}, 0, 60, 1},
-    {"5 integer partitions (80, 10), floor 4", "random", 5, 80, 10, 4, {0}, 0, 10, 1},
-    {"5 integer partitions (80, 20), floor 2", "random", 5, 80, 20, 2, {0}, 0, 20, 1},
-    {"6 Dyck words 5", "random", 6, 5, 0, 1, {0}, 0, 10, 1},
-    {"6 Dyck words 18", "random", 6, 18, 0, 1, {0}, 0, 36, 1},
-    {"6 Dyck words 36", "random", 6, 36, 0, 1, {0}, 0, 72, 1},
-    {"6 Dyck words 40", "random", 6, 40, 0, 1, {0}, 0, 80, 0},
+    {"1 subsets (8, 4)", "random", 1, 8, 4, 1, 1, {0}, 0, 4, 1},
+    {"1 subsets (40, 20)", "random", 1, 40, 20, 1, 1, {0}, 0, 20, 1},
+    {"1 subsets (67, 33)", "random", 1, 67, 33, 1, 1, {0}, 0, 33, 1},
+    {"1 subsets (80, 21)", "random", 1, 80, 21, 1, 1, {0}, 0, 21, 1},
+    {"1 subsets (80, 40)", "random", 1, 80, 40, 1, 1, {0}, 0, 40, 0},
+    {"2 anagrams 3 2 2 1", "random", 2, 4, 0, 1, 1, {3, 2, 2, 1}, 4, 8, 1},
+    {"2 anagrams 10 times 2", "random", 2, 10, 0, 1, 1, {2, 2, 2, 2, 2, 2, 2, 2, 2, 2}, 10, 20, 1},
+    {"2 anagrams 70 5 3 2", "random", 2, 4, 0, 1, 1, {70, 5, 3, 2}, 4, 80, 1},
+    {"2 anagrams 16 times 5", "random", 2, 16, 0, 1, 1, {5, 5, 5, 5, 5, 5, 5, 5, 5, 5, 5, 5, 5, 5, 5, 5}, 16, 80, 0},
+    {"3 permutations 8", "random", 3, 8, 0, 1, 1, {0}, 0, 8, 1},
+    {"3 permutations 14", "random", 3, 14, 0, 1, 1, {0}, 0, 14, 1},
+    {"3 permutations 20", "random", 3, 20, 0, 1, 1, {0}, 0, 20, 1},
+    {"3 permutations 80", "random", 3, 80, 0, 1, 1, {0}, 0, 80, 0},
+    {"4 set partitions (8, 3)", "random", 4, 8, 3, 1, 1, {0}, 0, 8, 1},
+    {"4 set partitions (8, 3), edition 2", "random", 4, 8, 3, 1, 2, {0}, 0, 8, 1},
+    {"4 set partitions (16, 5)", "random", 4, 16, 5, 1, 1, {0}, 0, 16, 1},
+    {"4 set partitions (16, 5), edition 2", "random", 4, 16, 5, 1, 2, {0}, 0, 16, 1},
+    {"4 set partitions (26, 9)", "random", 4, 26, 9, 1, 1, {0}, 0, 26, 1},
+    {"4 set partitions (26, 9), edition 2", "random", 4, 26, 9, 1, 2, {0}, 0, 26, 1},
+    {"4 set partitions (80, 75)", "random", 4, 80, 75, 1, 1, {0}, 0, 80, 1},
+    {"4 set partitions (80, 75), edition 2", "random", 4, 80, 75, 1, 2, {0}, 0, 80, 1},
+    {"4 set partitions (80, 40)", "random", 4, 80, 40, 1, 1, {0}, 0, 80, 0},
+    {"4 set partitions (80, 40), edition 2", "random", 4, 80, 40, 1, 2, {0}, 0, 80, 0},
+    {"5 integer partitions (12, 4)", "random", 5, 12, 4, 1, 1, {0}, 0, 4, 1},
+    {"5 integer partitions (40, 10)", "random", 5, 40, 10, 1, 1, {0}, 0, 10, 1},
+    {"5 integer partitions (80, 18)", "random", 5, 80, 18, 1, 1, {0}, 0, 18, 1},
+    {"5 integer partitions (80, 60)", "random", 5, 80, 60, 1, 1, {0}, 0, 60, 1},
+    {"5 integer partitions (80, 10), floor 4", "random", 5, 80, 10, 4, 1, {0}, 0, 10, 1},
+    {"5 integer partitions (80, 20), floor 2", "random", 5, 80, 20, 2, 1, {0}, 0, 20, 1},
+    {"6 Dyck words 5", "random", 6, 5, 0, 1, 1, {0}, 0, 10, 1},
+    {"6 Dyck words 18", "random", 6, 18, 0, 1, 1, {0}, 0, 36, 1},
+    {"6 Dyck words 36", "random", 6, 36, 0, 1, 1, {0}, 0, 72, 1},
+    {"6 Dyck words 40", "random", 6, 40, 0, 1, 1, {0}, 0, 80, 0},
 };
 
 /* Objects whose step costs most, at doubled lengths. */
 static const Family GROWTH[] = {
-    {"1 subsets (11, 10)", "costly", 1, 11, 10, 1, {0}, 0, 10, 1},
-    {"1 subsets (21, 20)", "costly", 1, 21, 20, 1, {0}, 0, 20, 1},
-    {"1 subsets (41, 40)", "costly", 1, 41, 40, 1, {0}, 0, 40, 1},
-    {"1 subsets (80, 79)", "costly", 1, 80, 79, 1, {0}, 0, 79, 1},
-    {"3 permutations 10", "costly", 3, 10, 0, 1, {0}, 0, 10, 1},
-    {"3 permutations 20", "costly", 3, 20, 0, 1, {0}, 0, 20, 1},
-    {"3 permutations 40", "costly", 3, 40, 0, 1, {0}, 0, 40, 0},
-    {"3 permutations 80", "costly", 3, 80, 0, 1, {0}, 0, 80, 0},
-    {"4 set partitions (10, 9)", "costly", 4, 10, 9, 1, {0}, 0, 10, 1},
-    {"4 set partitions (20, 19)", "costly", 4, 20, 19, 1, {0}, 0, 20, 1},
-    {"4 set partitions (40, 39)", "costly", 4, 40, 39, 1, {0}, 0, 40, 1},
-    {"4 set partitions (80, 79)", "costly", 4, 80, 79, 1, {0}, 0, 80, 1},
-    {"5 integer partitions (15, 10)", "costly", 5, 15, 10, 1, {0}, 0, 10, 1},
-    {"5 integer partitions (30, 20)", "costly", 5, 30, 20, 1, {0}, 0, 20, 1},
-    {"5 integer partitions (60, 40)", "costly", 5, 60, 40, 1, {0}, 0, 40, 1},
-    {"5 integer partitions (80, 79)", "costly", 5, 80, 79, 1, {0}, 0, 79, 1},
-    {"6 Dyck words 5", "costly", 6, 5, 0, 1, {0}, 0, 10, 1},
-    {"6 Dyck words 10", "costly", 6, 10, 0, 1, {0}, 0, 20, 1},
-    {"6 Dyck words 20", "costly", 6, 20, 0, 1, {0}, 0, 40, 1},
-    {"6 Dyck words 40", "costly", 6, 40, 0, 1, {0}, 0, 80, 0},
+    {"1 subsets (11, 10)", "costly", 1, 11, 10, 1, 1, {0}, 0, 10, 1},
+    {"1 subsets (21, 20)", "costly", 1, 21, 20, 1, 1, {0}, 0, 20, 1},
+    {"1 subsets (41, 40)", "costly", 1, 41, 40, 1, 1, {0}, 0, 40, 1},
+    {"1 subsets (80, 79)", "costly", 1, 80, 79, 1, 1, {0}, 0, 79, 1},
+    {"3 permutations 10", "costly", 3, 10, 0, 1, 1, {0}, 0, 10, 1},
+    {"3 permutations 20", "costly", 3, 20, 0, 1, 1, {0}, 0, 20, 1},
+    {"3 permutations 40", "costly", 3, 40, 0, 1, 1, {0}, 0, 40, 0},
+    {"3 permutations 80", "costly", 3, 80, 0, 1, 1, {0}, 0, 80, 0},
+    {"4 set partitions (10, 9)", "costly", 4, 10, 9, 1, 1, {0}, 0, 10, 1},
+    {"4 set partitions (20, 19)", "costly", 4, 20, 19, 1, 1, {0}, 0, 20, 1},
+    {"4 set partitions (40, 39)", "costly", 4, 40, 39, 1, 1, {0}, 0, 40, 1},
+    {"4 set partitions (80, 79)", "costly", 4, 80, 79, 1, 1, {0}, 0, 80, 1},
+    {"5 integer partitions (15, 10)", "costly", 5, 15, 10, 1, 1, {0}, 0, 10, 1},
+    {"5 integer partitions (30, 20)", "costly", 5, 30, 20, 1, 1, {0}, 0, 20, 1},
+    {"5 integer partitions (60, 40)", "costly", 5, 60, 40, 1, 1, {0}, 0, 40, 1},
+    {"5 integer partitions (80, 79)", "costly", 5, 80, 79, 1, 1, {0}, 0, 79, 1},
+    {"6 Dyck words 5", "costly", 6, 5, 0, 1, 1, {0}, 0, 10, 1},
+    {"6 Dyck words 10", "costly", 6, 10, 0, 1, 1, {0}, 0, 20, 1},
+    {"6 Dyck words 20", "costly", 6, 20, 0, 1, 1, {0}, 0, 40, 1},
+    {"6 Dyck words 40", "costly", 6, 40, 0, 1, 1, {0}, 0, 80, 0},
 };
 
 static void steps_and_jumps(const Family *f, int counting) {

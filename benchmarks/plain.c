@@ -42,8 +42,8 @@ void plain_prepare(void) {
     }
 }
 
-/* Questions 1, 2, 10 and 3, and the length of the objects. */
-static uint32_t table(uint64_t kind, uint64_t n, uint64_t k, uint64_t floor, const uint8_t *counts, size_t counts_len, size_t *length) {
+/* Questions 1, 2, 10, 11 and 3, and the length of the objects. */
+static uint32_t table(uint64_t kind, uint64_t n, uint64_t k, uint64_t floor, uint64_t edition, const uint8_t *counts, size_t counts_len, size_t *length) {
     uint64_t sum = 0;
     switch (kind) {
     case 1: case 4: case 5:
@@ -62,6 +62,7 @@ static uint32_t table(uint64_t kind, uint64_t n, uint64_t k, uint64_t floor, con
         return 1;
     }
     if (kind == 5 ? floor == 0 || floor > FLOORS : floor != 1) return 10;
+    if (kind == 4 ? edition != 1 && edition != 2 : edition != 1) return 11;
     if (kind != 2) return counts_len == 0 ? 0 : 3;
     if (counts_len != n) return 3;
     for (size_t i = 0; i < counts_len; i++) sum += counts[i];
@@ -266,6 +267,46 @@ static uint32_t previous_set_partition(uint8_t *x, size_t n) {
     return END;
 }
 
+/* Edition 2: a block goes to the next one that is in use in front, and behind them all comes a block of its own. The earliest partition is 1 .. m and then
+ * 1, the latest is the earliest of edition 1. */
+static void first_of_edition_2(uint8_t *x, size_t i, size_t m) {
+    for (size_t j = 0; j < i; j++) x[j] = (uint8_t)(j < m ? j + 1 : 1);
+}
+
+static uint32_t next_of_edition_2(uint8_t *x, size_t n) {
+    size_t used = 0;
+    for (size_t i = 0; i < n; i++) {
+        if (x[i] <= used && used > 1) {
+            if (x[i] < used) {
+                x[i]++;
+                first_of_edition_2(x, i, used);
+            } else /* the last block in use: now its own, of the same number */
+                first_of_edition_2(x, i, used - 1);
+            return 0;
+        }
+        if (x[i] > used) used = x[i];
+    }
+    return END;
+}
+
+static uint32_t previous_of_edition_2(uint8_t *x, size_t n) {
+    size_t used = 0;
+    for (size_t i = 0; i < n; i++) {
+        if (x[i] > used) {
+            if (used < i) { /* the first of its block, and i models can make one block more in front */
+                first_blocks(x, i, used + 1);
+                return 0;
+            }
+            used = x[i];
+        } else if (x[i] > 1) {
+            x[i]--;
+            first_blocks(x, i, used);
+            return 0;
+        }
+    }
+    return END;
+}
+
 static uint32_t next_integer_partition(uint8_t *x, size_t k) {
     size_t sum = 0, i = 0;
     while (i < k && i * (x[i] + 1u) >= sum) sum += x[i++];
@@ -341,12 +382,14 @@ static bool dyck_back(uint8_t *x, size_t len, const uint8_t *inside) {
     return true;
 }
 
-static uint32_t step(bool on, uint64_t kind, uint64_t n, uint64_t floor, uint8_t *x, size_t len) {
+static uint32_t step(bool on, uint64_t kind, uint64_t n, uint64_t floor, uint64_t edition, uint8_t *x, size_t len) {
     uint8_t inside[2 * BRANCHES];
     switch (kind) {
     case 1: return on ? next_subset(n, x, len) : previous_subset(x, len);
     case 2: case 3: return on ? next_word(x, len) : previous_word(x, len);
-    case 4: return on ? next_set_partition(x, len) : previous_set_partition(x, len);
+    case 4:
+        if (edition == 2) return on ? next_of_edition_2(x, len) : previous_of_edition_2(x, len);
+        return on ? next_set_partition(x, len) : previous_set_partition(x, len);
     case 5: return on ? next_integer_partition(x, len) : previous_integer_partition(floor, x, len);
     default:
         insides(x, len, inside);
@@ -415,6 +458,35 @@ static void unrank_set_partition(uint64_t k, uint64_t rank, uint8_t *x, size_t n
     }
 }
 
+static uint64_t rank_of_edition_2(uint64_t k, const uint8_t *x, size_t n) {
+    size_t first[PLACES + 1];
+    size_t used = 0;
+    uint64_t rank = 0;
+    for (size_t i = 0; i < n; i++)
+        if (x[i] > used) first[++used] = i;
+    for (size_t i = n; i-- > 0;) {
+        if (first[x[i]] == i) {
+            rank += k * blocks[i][k];
+            k--;
+        } else
+            rank += (x[i] - 1u) * blocks[i][k];
+    }
+    return rank;
+}
+
+static void unrank_of_edition_2(uint64_t k, uint64_t rank, uint8_t *x, size_t n) {
+    for (size_t i = n; i-- > 0;) {
+        uint64_t each = blocks[i][k], shared = k * each;
+        if (rank < shared) {
+            x[i] = (uint8_t)(rank / each + 1);
+            rank %= each;
+        } else {
+            rank -= shared;
+            x[i] = (uint8_t)k--;
+        }
+    }
+}
+
 static uint64_t rank_integer_partition(uint64_t n, uint64_t floor, const uint8_t *x, size_t k) {
     uint64_t rank = 0;
     for (; k > 0; k--) {
@@ -458,7 +530,7 @@ static void unrank_dyck(uint64_t rank, uint8_t *x, size_t len) {
     unrank_dyck(rank % catalans[m - j], x + 2 * j + 2, 2 * (m - j));
 }
 
-static uint64_t rank_of(uint64_t kind, uint64_t n, uint64_t k, uint64_t floor, const uint8_t *counts, uint64_t count, const uint8_t *x, size_t len) {
+static uint64_t rank_of(uint64_t kind, uint64_t n, uint64_t k, uint64_t floor, uint64_t edition, const uint8_t *counts, uint64_t count, const uint8_t *x, size_t len) {
     uint8_t work[PLACES];
     uint64_t rank = 0;
     switch (kind) {
@@ -467,7 +539,7 @@ static uint64_t rank_of(uint64_t kind, uint64_t n, uint64_t k, uint64_t floor, c
         return rank;
     case 2: memcpy(work, counts, n); return rank_word(work, count, x, len);
     case 3: memset(work, 1, n); return rank_word(work, count, x, len);
-    case 4: return rank_set_partition(k, x, len);
+    case 4: return edition == 2 ? rank_of_edition_2(k, x, len) : rank_set_partition(k, x, len);
     case 5: return rank_integer_partition(n, floor, x, len);
     default:
         insides(x, len, work);
@@ -475,7 +547,7 @@ static uint64_t rank_of(uint64_t kind, uint64_t n, uint64_t k, uint64_t floor, c
     }
 }
 
-static void unrank_of(uint64_t kind, uint64_t n, uint64_t k, uint64_t floor, const uint8_t *counts, uint64_t count, uint64_t rank, uint8_t *x, size_t len) {
+static void unrank_of(uint64_t kind, uint64_t n, uint64_t k, uint64_t floor, uint64_t edition, const uint8_t *counts, uint64_t count, uint64_t rank, uint8_t *x, size_t len) {
     uint8_t work[PLACES];
     size_t top = n;
     switch (kind) {
@@ -488,7 +560,10 @@ static void unrank_of(uint64_t kind, uint64_t n, uint64_t k, uint64_t floor, con
         break;
     case 2: memcpy(work, counts, n); unrank_word(work, count, rank, x, len); break;
     case 3: memset(work, 1, n); unrank_word(work, count, rank, x, len); break;
-    case 4: unrank_set_partition(k, rank, x, len); break;
+    case 4:
+        if (edition == 2) unrank_of_edition_2(k, rank, x, len);
+        else unrank_set_partition(k, rank, x, len);
+        break;
     case 5: unrank_integer_partition(n, floor, rank, x, len); break;
     default: unrank_dyck(rank, x, len);
     }
@@ -496,56 +571,56 @@ static void unrank_of(uint64_t kind, uint64_t n, uint64_t k, uint64_t floor, con
 
 /* The calls. */
 
-uint32_t plain_count(uint64_t kind, uint64_t n, uint64_t k, uint64_t floor, const uint8_t *counts, size_t counts_len, uint64_t *value) {
+uint32_t plain_count(uint64_t kind, uint64_t n, uint64_t k, uint64_t floor, uint64_t edition, const uint8_t *counts, size_t counts_len, uint64_t *value) {
     size_t length;
     uint64_t count;
-    uint32_t no = table(kind, n, k, floor, counts, counts_len, &length);
+    uint32_t no = table(kind, n, k, floor, edition, counts, counts_len, &length);
     if (no) return no;
     if (!count_of(kind, n, k, floor, counts, counts_len, &count)) return 5;
     *value = count;
     return 0;
 }
 
-static uint32_t stepped(bool on, uint64_t kind, uint64_t n, uint64_t k, uint64_t floor, const uint8_t *counts, size_t counts_len, uint8_t *object, size_t object_len) {
+static uint32_t stepped(bool on, uint64_t kind, uint64_t n, uint64_t k, uint64_t floor, uint64_t edition, const uint8_t *counts, size_t counts_len, uint8_t *object, size_t object_len) {
     size_t length;
-    uint32_t no = table(kind, n, k, floor, counts, counts_len, &length);
+    uint32_t no = table(kind, n, k, floor, edition, counts, counts_len, &length);
     if (no) return no;
     if (!has_object(kind, n, k, floor)) return 4;
     if (object_len != length) return 6;
     if (!is_object(kind, n, k, floor, counts, counts_len, object, object_len)) return 7;
-    return step(on, kind, n, floor, object, object_len);
+    return step(on, kind, n, floor, edition, object, object_len);
 }
 
-uint32_t plain_next(uint64_t kind, uint64_t n, uint64_t k, uint64_t floor, const uint8_t *counts, size_t counts_len, uint8_t *object, size_t object_len) {
-    return stepped(true, kind, n, k, floor, counts, counts_len, object, object_len);
+uint32_t plain_next(uint64_t kind, uint64_t n, uint64_t k, uint64_t floor, uint64_t edition, const uint8_t *counts, size_t counts_len, uint8_t *object, size_t object_len) {
+    return stepped(true, kind, n, k, floor, edition, counts, counts_len, object, object_len);
 }
 
-uint32_t plain_previous(uint64_t kind, uint64_t n, uint64_t k, uint64_t floor, const uint8_t *counts, size_t counts_len, uint8_t *object, size_t object_len) {
-    return stepped(false, kind, n, k, floor, counts, counts_len, object, object_len);
+uint32_t plain_previous(uint64_t kind, uint64_t n, uint64_t k, uint64_t floor, uint64_t edition, const uint8_t *counts, size_t counts_len, uint8_t *object, size_t object_len) {
+    return stepped(false, kind, n, k, floor, edition, counts, counts_len, object, object_len);
 }
 
-uint32_t plain_rank(uint64_t kind, uint64_t n, uint64_t k, uint64_t floor, const uint8_t *counts, size_t counts_len, const uint8_t *object, size_t object_len, uint64_t *value) {
+uint32_t plain_rank(uint64_t kind, uint64_t n, uint64_t k, uint64_t floor, uint64_t edition, const uint8_t *counts, size_t counts_len, const uint8_t *object, size_t object_len, uint64_t *value) {
     size_t length;
     uint64_t count;
-    uint32_t no = table(kind, n, k, floor, counts, counts_len, &length);
+    uint32_t no = table(kind, n, k, floor, edition, counts, counts_len, &length);
     if (no) return no;
     if (!has_object(kind, n, k, floor)) return 4;
     if (!count_of(kind, n, k, floor, counts, counts_len, &count)) return 5;
     if (object_len != length) return 6;
     if (!is_object(kind, n, k, floor, counts, counts_len, object, object_len)) return 7;
-    *value = rank_of(kind, n, k, floor, counts, count, object, object_len);
+    *value = rank_of(kind, n, k, floor, edition, counts, count, object, object_len);
     return 0;
 }
 
-uint32_t plain_unrank(uint64_t kind, uint64_t n, uint64_t k, uint64_t floor, const uint8_t *counts, size_t counts_len, uint64_t rank, uint8_t *object, size_t object_len) {
+uint32_t plain_unrank(uint64_t kind, uint64_t n, uint64_t k, uint64_t floor, uint64_t edition, const uint8_t *counts, size_t counts_len, uint64_t rank, uint8_t *object, size_t object_len) {
     size_t length;
     uint64_t count;
-    uint32_t no = table(kind, n, k, floor, counts, counts_len, &length);
+    uint32_t no = table(kind, n, k, floor, edition, counts, counts_len, &length);
     if (no) return no;
     if (!has_object(kind, n, k, floor)) return 4;
     if (!count_of(kind, n, k, floor, counts, counts_len, &count)) return 5;
     if (object_len != length) return 6;
     if (rank >= count) return 8;
-    unrank_of(kind, n, k, floor, counts, count, rank, object, object_len);
+    unrank_of(kind, n, k, floor, edition, counts, count, rank, object, object_len);
     return 0;
 }

@@ -137,6 +137,20 @@ def floor_targets(limit):
     say(*[f"  - missed: {c} of {f} ({r:.2f})" for r, c, f in rows if r > limit])
 
 
+def edition_targets(limit, limit_now):
+    """Of each call on set partitions, edition 2's cost over edition 1's on the same objects, and edition 1's over before's; what lies above the limits."""
+    two = ", edition 2"
+    pairs = [((f, p, c, "library"), (f.removesuffix(two), p, c, "library"), limit) for f, p in families for c in calls[1:] if f.endswith(two)]
+    said = [("Edition 2 of set partitions", "edition 1", pairs)]
+    if earlier:
+        said.append(("Edition 1 of set partitions", "before", [(a, (*a[:3], "before"), limit_now) for _, a, _ in pairs]))
+    for what, other, pairs in said:
+        rows = [(counts[a] / counts[b], times[a] / times[b], f"{a[2]} of {a[0]}", most) for a, b, most in pairs if a in times and b in times]
+        largest = [(c, max(r for r in rows if r[2].startswith(c)), max(r[1] for r in rows if r[2].startswith(c))) for c in calls[1:]]
+        say(f"- {what} at most {rows[0][3]} times {other}: largest by instructions and by time " + ", ".join(f"{c} {r[0]:.2f} and {t:.2f}" for c, r, t in largest) + ".")
+        say(*[f"  - missed: {r[2]} ({r[0]:.2f} by instructions, {r[1]:.2f} by time)" for r in rows if max(r[:2]) > r[3]])
+
+
 def worst(group, limit):
     """The largest ratio of a group of calls, by time and by instructions, and what lies above the limit."""
     rows = []
@@ -178,6 +192,7 @@ def targets():
     jump_targets(1.3)
     subset_ranks(1.7)
     floor_targets(2)
+    edition_targets(1.2, 1.1)
 
 
 say("# Benchmarks", "", f"Written by `benchmarks/run` on {datetime.date.today()}: {shell('lscpu | sed -n s/^Model.name:[[:space:]]*//p')}, {shell('gcc --version | head -1')}, -O2.", "")

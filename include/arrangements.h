@@ -9,14 +9,16 @@
  * Nothing is kept between calls. Any number of threads may call at once, each with its own object, *value and *number; lists may be shared: no call
  * writes them.
  *
- * A family is (kind, n, k, floor) and, for kind 2, a list of letter counts, one byte a letter; for other kinds the list is empty. The floor is 1 for
- * every kind but 5.
+ * A family is (kind, n, k, floor, edition) and, for kind 2, a list of letter counts, one byte a letter; for other kinds the list is empty. The floor
+ * is 1 for every kind but 5, the edition is 1 for every kind but 4.
  *   kind 1  subsets of k out of 1 to n, ascending          k bytes       n, k up to 80
  *   kind 2  anagrams: letter i (from 1) counts[i - 1] times sum bytes     n letters up to 80, sum up to 80, k = 0
  *   kind 3  permutations of 1 to n                          n bytes       n up to 80, k = 0
- *   kind 4  set partitions: byte i is the block of model i  n bytes       n, k up to 80
+ *   kind 4  set partitions: byte i is the block of model i  n bytes       n, k up to 80, edition 1 or 2
  *   kind 5  integer partitions of n into k parts >= floor   k bytes       n, k up to 80, floor 1 to 80
  *   kind 6  Dyck words with n of each, 1 up and 0 down      2n bytes      n up to 40, k = 0
+ * The editions of kind 4 have the same objects and differ in the order: in edition 1 a model that is the smallest of its block comes before the same
+ * model in blocks 1, 2, .., in edition 2 behind it.
  *
  * A call answers one of the codes below. Only ARRANGEMENT_DONE comes with a change of what is lent.
  */
@@ -38,6 +40,7 @@ extern "C" {
 #define ARRANGEMENT_REFUSED_KIND 1u          /* is the kind 1 to 6? */
 #define ARRANGEMENT_REFUSED_BOUNDS 2u        /* are n and k within the table above? */
 #define ARRANGEMENT_REFUSED_FLOOR 10u        /* is the floor 1 to 80, and 1 for every kind but 5? */
+#define ARRANGEMENT_REFUSED_EDITION 11u      /* is the edition 1 or 2, and 1 for every kind but 4? */
 #define ARRANGEMENT_REFUSED_LETTER_COUNTS 3u /* for kind 2, is the count list n long with a sum of at most 80; is it empty for other kinds? */
 #define ARRANGEMENT_REFUSED_NO_OBJECTS 4u    /* has the family an object? (all but COUNT, which answers 0) */
 #define ARRANGEMENT_REFUSED_OVERFLOW 5u      /* is the count below 2^64? (COUNT, RANK, UNRANK, jumps, a walk's steps) */
@@ -45,17 +48,17 @@ extern "C" {
 #define ARRANGEMENT_REFUSED_NOT_AN_OBJECT 7u /* does it hold an object of the family? (RANK, NEXT, PREVIOUS, jumps, a walk's steps) */
 #define ARRANGEMENT_REFUSED_RANK 8u          /* is the rank below the count? (UNRANK; a walk's steps, of *number) */
 
-/* A family is passed by value. Make one by arrangement_family_of: the floor is then 1, and later fields have their defaults. Who wants another floor sets
- * it afterwards, here that of the partitions of 9 into 3 parts of at least 2:
+/* A family is passed by value. Make one by arrangement_family_of: floor and edition are then 1, and later fields have their defaults. Who wants another
+ * floor or edition sets it afterwards, here the floor of the partitions of 9 into 3 parts of at least 2:
  *   arrangement_family f = arrangement_family_of(5, 9, 3);
  *   f.floor = 2; */
 typedef struct {
-    uint64_t kind, n, k, floor;
+    uint64_t kind, n, k, floor, edition;
 } arrangement_family;
 
 static inline arrangement_family arrangement_family_of(uint64_t kind, uint64_t n, uint64_t k)
 {
-    arrangement_family f = {kind, n, k, 1};
+    arrangement_family f = {kind, n, k, 1, 1};
     return f;
 }
 
@@ -82,7 +85,7 @@ static inline arrangement_lists arrangement_no_lists(void)
     return arrangement_counts(none, 0);
 }
 
-/* Writes to *value how long the family's objects are; asks questions 1, 2, 10 and 3. */
+/* Writes to *value how long the family's objects are; asks questions 1, 2, 10, 11 and 3. */
 uint32_t arrangement_object_length(arrangement_family f, const arrangement_lists *lists, uint64_t *value);
 
 /* COUNT: writes the number of objects to *value. */

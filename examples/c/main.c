@@ -1,4 +1,4 @@
-/* A number for an arrangement, the arrangement for a number, one step on and back, a walk, jumps, a floor. Build and run: examples/c/run */
+/* A number for an arrangement, the arrangement for a number, one step on and back, a walk, jumps, a floor, an edition. Build and run: examples/c/run */
 #include <inttypes.h>
 #include <stdio.h>
 #include <string.h>
@@ -49,6 +49,27 @@ static int floors(void)
     return code == ARRANGEMENT_REFUSED_FLOOR ? 0 : 1;
 }
 
+/* All set partitions of 4 models into 2 blocks as edition 2 lists them, and an edition that is refused; 0, or 1 where an answer is another. */
+static int editions(void)
+{
+    arrangement_family partitions = arrangement_family_of(4, 4, 2);
+    const arrangement_lists none = arrangement_no_lists();
+    uint8_t blocks[4];
+
+    partitions.edition = 2;
+    uint32_t code = arrangement_first(partitions, &none, blocks, 4);
+    while (code == ARRANGEMENT_DONE) {
+        show("4 models in 2 blocks, edition 2", blocks, 4);
+        code = arrangement_next(partitions, &none, blocks, 4);
+    }
+    if (code != ARRANGEMENT_END)
+        return 1;
+    partitions.edition = 3;
+    code = arrangement_first(partitions, &none, blocks, 4);
+    printf("edition 3 is refused by question %" PRIu32 "\n", code);
+    return code == ARRANGEMENT_REFUSED_EDITION ? 0 : 1;
+}
+
 int main(void)
 {
     /* A tree with two of model 1, three of model 2 and two of model 3, hung in this order. */
@@ -89,7 +110,7 @@ int main(void)
         show(what, tree, 7);
     }
 
-    if (jumps(trees, &lists, tree) != 0 || floors() != 0)
+    if (jumps(trees, &lists, tree) != 0 || floors() != 0 || editions() != 0)
         return 1;
 
     /* A number that no arrangement has is refused by its question, 8, and the tree stays. */

@@ -5,8 +5,20 @@ crates/test_calls/src/main.rt has the form of a case and the letters. The librar
     python3 tests/expected/calls.py"""
 from itertools import product
 
-from families import BRANCHES, FLOORS, PLACES, Filtered, Ranks, count, family, full_name, length, name, refusal
-from samples import BELOW_FLOOR, FLOORS_MISSED, LARGE_FLOORS, LARGEST, WRONG_FLOORS, some_bytes
+from families import BRANCHES, FLOORS, PLACES, Filtered, Ranks, count, family, full_name, length, name, refusal, stirling
+from samples import (
+    BELOW_FLOOR,
+    BEYOND_EDITIONS,
+    EDITIONS_MISSED,
+    FLOORS_MISSED,
+    LARGE_EDITIONS,
+    LARGE_FLOORS,
+    LARGEST,
+    NO_PARTITIONS,
+    WRONG_EDITIONS,
+    WRONG_FLOORS,
+    some_bytes,
+)
 from texts import words, write
 
 CALLS = {"c": "COUNT", "r": "RANK", "f": "FIRST", "l": "LAST", "n": "NEXT", "p": "PREVIOUS", "u": "UNRANK"}
@@ -175,6 +187,42 @@ def refused_floors():
         yield f"question 7, {name(f)} at{words(x)}", "rnp", 0, f, x, Ranks
 
 
+def small_editions():
+    """Walked both ways and through the ranks where there is an object, in both editions; the smaller families of edition 2 listed, too."""
+    for edition, n in product((1, 2), range(9)):
+        for f in [family(4, n, k, edition=edition) for k in range(n + 2)]:
+            listed = "az" if edition == 2 and n < 6 else ""
+            yield name(f), "cwbt" + listed if count(f) else "c", 0, f, [0] * length(f), Filtered
+
+
+def seams(f):
+    """Ranks at which the key of the last model rises: the keys of the models in front all start over there."""
+    alone, shared = stirling(f.n - 1, f.k - 1), stirling(f.n - 1, f.k)
+    start = alone if f.edition == 1 else 0
+    return [start + b * shared for b in (1, f.k - 1, f.k)] + [start]
+
+
+def large_editions():
+    """Steps from both ends; then steps round objects by their ranks: the first, some in the middle, those where the last key rises, and the last."""
+    for f in LARGE_EDITIONS:
+        last = count(f) - 1
+        yield name(f), "c><", 0, f, [0] * length(f), Ranks
+        for r in sorted({0, 1, *seams(f), last // 2, last // 3, last, last + 1}):
+            # where r is no rank, UNRANK alone
+            yield f"{name(f)} from {r}", "Urnppn" if r <= last else "u", r, f, [0] * length(f), Ranks
+    yield from ((name(f), "c><", 0, f, [0] * length(f), Ranks) for f in BEYOND_EDITIONS)
+
+
+def refused_editions():
+    """As `refused_floors`."""
+    for f, x in WRONG_EDITIONS:
+        yield f"question 11, {name(f)}", "crnpulf" if f.kind == 4 or f.edition == 2 else "cr", 0, f, x, Ranks
+    for q, f in EDITIONS_MISSED:
+        yield f"question {q}, {full_name(f)}", "crnpulf" if q in (4, 5) else "cr", 0, f, some_bytes(f), Ranks
+    for f, x in NO_PARTITIONS:
+        yield f"question 7, {name(f)} at{words(x)}", "rnp", 0, f, x, Ranks
+
+
 # Typed from the sources, the answers too: source and number, letter, family, what is lent or the rank, the answer.
 LISTED = [
     ("000 5.39", family(3, 4), "1234 1243 1324 1342 1423 1432 2134 2143"),
@@ -195,6 +243,13 @@ WORKED = [
     ("000 5.28", "U", family(4, 7, 3), 111, "1223231"),
     ("004 3.3", "F", family(4, 7, 3), None, "1111123"),
     ("004 3.3", "L", family(4, 7, 3), None, "1233333"),
+    # 001 prints the object (3, 0, 2, 0, 0) of order (5, 3), which "is the partition (124)(3)(5) in familiar form", and no number. By its sum (5)
+    # the rank is 3 * 6 + 0 + 2 * 1 + 0 + 0; its NEXT makes (3, 1, 0, 0, 0) of it, which is (13)(24)(5); and the first object has "a codeword which
+    # is just a string of 0's", which is (145)(2)(3).
+    ("001 4 (2)", "r", family(4, 5, 3, edition=2), "11213", "20"),
+    ("001 4 (2)", "U", family(4, 5, 3, edition=2), 20, "11213"),
+    ("001 4 (2)", "N", family(4, 5, 3, edition=2), "11213", "12123"),
+    ("001 4 (2)", "F", family(4, 5, 3, edition=2), None, "12311"),
     ("000 5.34", "r", family(6, 5), "1101100010", "24"),
     ("000 5.36", "U", family(6, 7), 211, "11011000111000"),
     ("000 5.41", "N", family(6, 3), "101100", "110010"),
@@ -221,9 +276,18 @@ def published():
     return cases, lines
 
 
+def check_ranks():
+    """In both editions, set partitions by rank are those that are sorted."""
+    for edition, n, k in product((1, 2), range(8), range(1, 9)):
+        f = family(4, n, k, edition=edition)
+        assert [Ranks(f).object(r) for r in range(count(f))] == Filtered(f).objects
+
+
 def main():
+    check_ranks()
     made = {"small_families": small_families(), "refusals": refusals(), "large_families": large_families(), "listings": listings()}
     made["floors"] = [*small_floors(), *large_floors(), *refused_floors()]
+    made["editions"] = [*small_editions(), *large_editions(), *refused_editions()]
     expected = []
     for file in open("crates/test_calls/args").read().split():
         if file == "published":

@@ -1,13 +1,13 @@
-"""The six families of paper 01, with the floor of paper 02, written from their words and not from the library: the table's bounds and tests,
-"Which of two objects comes first" as comparisons, and the questions in their order. Two listings: `Filtered`, all strings that pass the table's
-test, sorted by the comparison, for small families; and `Ranks`, objects by rank, counted place by place as 000 and 004 do, for large ones,
-where the order rests on the same recursion as the library's listings."""
+"""The six families of paper 01, with the floor and the editions of paper 02, written from their words and not from the library: the table's
+bounds and tests, "Which of two objects comes first" as comparisons, and the questions in their order. Two listings: `Filtered`, all strings
+that pass the table's test, sorted by the comparison, for small families; and `Ranks`, objects by rank, counted place by place as 000 and 004
+do, for large ones, where the order rests on the same recursion as the library's listings."""
 from functools import cache, cmp_to_key
-from itertools import combinations_with_replacement, product
+from itertools import combinations, combinations_with_replacement, product
 from math import comb, factorial
 from typing import NamedTuple
 
-PLACES, BRANCHES, FLOORS = 80, 40, 80
+PLACES, BRANCHES, FLOORS, EDITIONS = 80, 40, 80, 2
 FITS = 2**64
 NAMES = {1: "subsets", 2: "anagrams", 3: "permutations", 4: "set partitions", 5: "integer partitions", 6: "Dyck words"}
 
@@ -20,10 +20,11 @@ class Family(NamedTuple):
     k: int
     counts: tuple
     floor: int = 1
+    edition: int = 1
 
     def numbers(self):
         """The numbers passed by value, in their order."""
-        return self.kind, self.n, self.k, self.floor
+        return self.kind, self.n, self.k, self.floor, self.edition
 
 
 def family(kind, n, k=0, counts=(), **more):
@@ -31,12 +32,13 @@ def family(kind, n, k=0, counts=(), **more):
 
 
 def name(f):
-    """How a label calls the family: with its floor only where that isn't 1."""
+    """How a label calls the family: with its floor and its edition only where they aren't 1."""
     if f.kind == 2:
         called = f"{NAMES[2]} of {' '.join(map(str, f.counts)) or 'no letters'}"
     else:
         called = f"{NAMES.get(f.kind, f'kind {f.kind}')} {f.n}" + (f" {f.k}" if f.kind not in (3, 6) or f.k else "")
-    return called if f.floor == 1 else f"{called} with floor {f.floor}"
+    called += f" with floor {f.floor}" if f.floor != 1 else ""
+    return called + (f" in edition {f.edition}" if f.edition != 1 else "")
 
 
 def full_name(f):
@@ -99,6 +101,9 @@ def compare(f, x, y):
     if not places:
         return 0
     i = places[0] if f.kind in (2, 3) else places[-1]
+    if f.kind == 4 and f.edition == 2 and 0 in (x[i], y[i]):
+        # "the key of a model that is smallest in its block counts as higher than every block number"
+        return 1 if x[i] == 0 else -1
     return x[i] - y[i]
 
 
@@ -147,11 +152,27 @@ def count(f):
     }[f.kind]()
 
 
+def divisions(models):
+    """All ways to divide models into blocks, by the block of the smallest of them; so the blocks stand in the order of their smallest models."""
+    if not models:
+        yield ()
+        return
+    smallest, *others = models
+    for size in range(len(models)):
+        for joined in combinations(others, size):
+            rest = [m for m in others if m not in joined]
+            yield from (({smallest, *joined}, *blocks) for blocks in divisions(rest))
+
+
 def strings(f):
-    """All that can pass the table's test; of kind 5, where they would be too many, the weakly descending ones alone."""
+    """All that can pass the table's test. Of kinds 4 and 5, where they would be too many: those of all divisions into blocks, whatever k; the weakly
+    descending ones."""
+    if f.kind == 4:
+        models = range(f.n)
+        return (tuple(next(b for b, block in enumerate(blocks, 1) if m in block) for m in models) for blocks in divisions(models))
     if f.kind == 5:
         return combinations_with_replacement(range(f.n, -1, -1), length(f))
-    return product(range({4: f.k, 6: 1}.get(f.kind, f.n) + 1), repeat=length(f))
+    return product(range({6: 1}.get(f.kind, f.n) + 1), repeat=length(f))
 
 
 class Filtered:
@@ -188,7 +209,7 @@ class Ranks:
             1: lambda: subset(f.n, f.k, r),
             2: lambda: word(f.counts, r),
             3: lambda: word((1,) * f.n, r),
-            4: lambda: set_partition(f.n, f.k, r),
+            4: lambda: set_partition(f.n, f.k, f.edition, r),
             5: lambda: integer_partition(f.n, f.k, f.floor, r),
             6: lambda: plan(f.n, r),
         }[f.kind]()
@@ -230,17 +251,17 @@ def word(counts, r):
     return x
 
 
-def set_partition(n, k, r):
-    """Model n alone has key 0; else its key is one of k blocks."""
+def set_partition(n, k, edition, r):
+    """Model n decides first: with key 0 it is alone in block k, and the others have a block less; else its key is one of k blocks, which they fill
+    without it. The keys are gone through in the edition's order."""
     x = ()
     while n:
-        alone = stirling(n - 1, k - 1) if k else 0
-        if r < alone:
-            x, k = (k,) + x, k - 1
-        else:
-            b, r = divmod(r - alone, stirling(n - 1, k))
-            x = (b + 1,) + x
-        n -= 1
+        for key in range(k + 1) if edition == 1 else (*range(1, k + 1), 0):
+            others = stirling(n - 1, k if key else k - 1)
+            if r < others:
+                break
+            r -= others
+        x, n, k = (key or k,) + x, n - 1, k if key else k - 1
     return x
 
 
@@ -278,6 +299,8 @@ def not_allowed(f):
         return 2
     if not (1 <= f.floor <= FLOORS if f.kind == 5 else f.floor == 1):
         return 10
+    if not (1 <= f.edition <= EDITIONS if f.kind == 4 else f.edition == 1):
+        return 11
     if (len(f.counts) != f.n or sum(f.counts) > PLACES) if f.kind == 2 else f.counts:
         return 3
     return 0

@@ -7,7 +7,20 @@ on the listings of families.py, with Python's integers.
 from functools import cache
 
 from families import BRANCHES, FITS, PLACES, Filtered, Ranks, count, family, full_name, length, name, refusal
-from samples import BELOW_FLOOR, FLOORS_MISSED, LARGE_FLOORS, SAMPLES, SMALL_FLOORS, WRONG_FLOORS, some_bytes
+from samples import (
+    BELOW_FLOOR,
+    EDITIONS_MISSED,
+    FLOORS_MISSED,
+    LARGE_EDITIONS,
+    LARGE_FLOORS,
+    NO_PARTITIONS,
+    SAMPLES,
+    SMALL_EDITIONS,
+    SMALL_FLOORS,
+    WRONG_EDITIONS,
+    WRONG_FLOORS,
+    some_bytes,
+)
 from texts import words, write_program
 
 SMALLEST, LARGEST = -(2**63), 2**63 - 1
@@ -199,20 +212,38 @@ def refusals():
     yield from refused(name(f), 6, f, (1, 1, 2, 2))
 
 
-def floors():
-    """Kind 5 with floors, and floors that are refused, on every kind."""
-    yield from everywhere(SMALL_FLOORS)
-    yield from far_and_half_way(LARGE_FLOORS, in_no_order(4))
-    for f, x in WRONG_FLOORS:
-        yield from refused(name(f), 10, f, x)
-    for q, f in FLOORS_MISSED:
+def of_a_field(small, large, seed, number, wrong, missed, no_objects):
+    """What is asked of a field of one kind: small families everywhere, large ones, values that the question of that number refuses, on every kind,
+    families that miss others, and bytes that are no object."""
+    yield from everywhere(small)
+    yield from far_and_half_way(large, in_no_order(seed))
+    for f, x in wrong:
+        yield from refused(name(f), number, f, x)
+    for q, f in missed:
         yield from refused(full_name(f), q, f, some_bytes(f))
-    for f, x in BELOW_FLOOR:
+    for f, x in no_objects:
         yield from refused(f"{name(f)} at{words(x)}", 7, f, x)
 
 
+def floors():
+    return of_a_field(SMALL_FLOORS, LARGE_FLOORS, 4, 10, WRONG_FLOORS, FLOORS_MISSED, BELOW_FLOOR)
+
+
+def editions():
+    # edition 1 of the others is like those of `large_families`
+    large = [f for f in LARGE_EDITIONS if f.edition == 2 or (f.n, f.k) == (80, 75)]
+    return of_a_field(SMALL_EDITIONS, large, 5, 11, WRONG_EDITIONS, EDITIONS_MISSED, NO_PARTITIONS)
+
+
 def main():
-    made = {"small_families": small_families, "both_ends": both_ends, "large_families": large_families, "refusals": refusals, "floors": floors}
+    made = {
+        "small_families": small_families,
+        "both_ends": both_ends,
+        "large_families": large_families,
+        "refusals": refusals,
+        "floors": floors,
+        "editions": editions,
+    }
     write_program("test_jumps", made)
 
 

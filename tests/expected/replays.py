@@ -5,7 +5,22 @@ marker" of paper 01, on the listings of families.py. That a list that doesn't fi
 
     python3 tests/expected/replays.py"""
 from families import BRANCHES, PLACES, Filtered, Ranks, family, full_name, is_object, length, name, not_allowed, refusal
-from samples import BELOW_FLOOR, FLOORS_MISSED, LARGE_FLOORS, LARGEST, SAMPLES, SMALL_FLOORS, WRONG_FLOORS, some_bytes
+from samples import (
+    BELOW_FLOOR,
+    BEYOND_EDITIONS,
+    EDITIONS_MISSED,
+    FLOORS_MISSED,
+    LARGE_EDITIONS,
+    LARGE_FLOORS,
+    LARGEST,
+    NO_PARTITIONS,
+    SAMPLES,
+    SMALL_EDITIONS,
+    SMALL_FLOORS,
+    WRONG_EDITIONS,
+    WRONG_FLOORS,
+    some_bytes,
+)
 from texts import words, write_program
 
 CODES = {"FIRST": 1, "LAST": 2, "NEXT": 3, "PREVIOUS": 4, "UNRANK": 5}
@@ -188,24 +203,40 @@ def misfits():
     return [Case(*c) for c in cases]
 
 
-def floors():
-    """Kind 5 with floors, and floors that are refused, on every kind."""
-    for f in SMALL_FLOORS:
+def of_a_field(small, large, number, wrong, missed, no_objects):
+    """What is asked of a field of one kind: small families everywhere, large ones, values that the question of that number refuses, on every kind,
+    families that miss others, and bytes that are no object."""
+    for f in small:
         yield from everywhere(f)
-    for f in LARGE_FLOORS:
+    for f in large:
         middle = Ranks(f).count() // 2
         calls = ["FIRST", "PREVIOUS", "NEXT", middle, "NEXT", "PREVIOUS", "PREVIOUS", "LAST", "NEXT", "PREVIOUS", LARGEST]
         yield fitting(name(f), calls, f, [0] * length(f), Ranks)
-    for f, x in WRONG_FLOORS:
-        yield fitting(f"question 10, {name(f)}", EVERY_CALL, f, x, Ranks)
-    for q, f in FLOORS_MISSED:
+    for f, x in wrong:
+        yield fitting(f"question {number}, {name(f)}", EVERY_CALL, f, x, Ranks)
+    for q, f in missed:
         yield fitting(f"question {q}, {full_name(f)}", ["FIRST", "NEXT", 0, "LAST", "PREVIOUS"], f, some_bytes(f), Ranks)
-    for f, x in BELOW_FLOOR:
+    for f, x in no_objects:
         yield fitting(f"question 7, {name(f)} at{words(x)}", [*STAYS, 0, *STAYS], f, x)
 
 
+def floors():
+    return of_a_field(SMALL_FLOORS, LARGE_FLOORS, 10, WRONG_FLOORS, FLOORS_MISSED, BELOW_FLOOR)
+
+
+def editions():
+    return of_a_field(SMALL_EDITIONS, LARGE_EDITIONS + BEYOND_EDITIONS, 11, WRONG_EDITIONS, EDITIONS_MISSED, NO_PARTITIONS)
+
+
 def main():
-    made = {"small_families": small_families, "refusals": refusals, "large_families": large_families, "misfits": misfits, "floors": floors}
+    made = {
+        "small_families": small_families,
+        "refusals": refusals,
+        "large_families": large_families,
+        "misfits": misfits,
+        "floors": floors,
+        "editions": editions,
+    }
     write_program("test_replay", made)
 
 

@@ -1,5 +1,5 @@
 """Families that several of the scripts beside try."""
-from families import FITS, FLOORS, PLACES, Ranks, family, length, refusal
+from families import EDITIONS, FITS, FLOORS, PLACES, Ranks, family, length, refusal
 
 LARGEST = FITS - 1
 # one of each kind
@@ -44,6 +44,58 @@ FLOORS_MISSED = (
     (4, family(5, 80, 2, floor=41)),
     (4, family(5, PLACES, PLACES, floor=FLOORS)),
     (4, family(5, 9, 0, floor=2)),
+)
+
+# kind 4 in edition 2: the empty string; one object; several
+SMALL_EDITIONS = tuple(family(4, n, k, edition=2) for n, k in ((0, 0), (3, 3), (4, 2), (5, 2), (5, 4)))
+# in both editions, with up to 2^64 - 1 objects and with up to 80 places; and in edition 2 with 2^64 objects or more
+LARGE_EDITIONS = tuple(family(4, n, k, edition=edition) for n, k in ((80, 75), (65, 2), (26, 9), (42, 3), (49, 41), (80, 80)) for edition in (1, 2))
+BEYOND_EDITIONS = tuple(family(4, n, k, edition=2) for n, k in ((31, 20), (66, 2), (80, 40)))
+# what is no set partition in any edition: block 2 begun before 1, a block too few, one too many, one left out
+NO_PARTITIONS = [(family(4, 4, 2, edition=2), x) for x in ((2, 1, 1, 2), (1, 1, 1, 1), (1, 2, 3, 1), (1, 1, 3, 1), (0, 1, 1, 0))]
+
+# editions that question 11 refuses, at an object of the family of edition 1: nothing else is missed. The last are 1 and 2 where bits are lost.
+WRONG_EDITIONS = [
+    (f._replace(edition=edition), Ranks(f).object(1))
+    for f in SAMPLES
+    for edition in ((0, EDITIONS + 1, LARGEST, 2**8 + 1, 2**32 + 2) if f.kind == 4 else (0, 2, LARGEST, 2**8 + 1))
+]
+# families with an edition that miss other questions, or several: with the number of the first
+EDITIONS_MISSED = (
+    # a number that is no kind, whatever the edition
+    (1, family(0, 4, 2, edition=0)),
+    (1, family(7, 4, 2, edition=2)),
+    # 2, and 11; 2 alone
+    (2, family(4, PLACES + 1, 2, edition=0)),
+    (2, family(4, 4, PLACES + 1, edition=EDITIONS + 1)),
+    (2, family(6, 3, 1, edition=2)),
+    (2, family(4, LARGEST, LARGEST, edition=2)),
+    # 10, and 11; 10 alone; 10, and 11 and 3
+    (10, family(4, 4, 2, floor=2, edition=EDITIONS + 1)),
+    (10, family(4, 4, 2, floor=0, edition=0)),
+    (10, family(5, 7, 3, floor=FLOORS + 1, edition=2)),
+    (10, family(1, 4, 2, floor=2, edition=2)),
+    (10, family(4, 4, 2, floor=2, edition=2)),
+    (10, family(4, 4, 2, (1,), floor=2, edition=EDITIONS + 1)),
+    # 11 alone, behind a floor that passes
+    (11, family(5, 9, 3, floor=2, edition=2)),
+    # 11, and 3; 11, and 4; 11, and 5
+    (11, family(2, 3, 0, (1, 1), edition=2)),
+    (11, family(4, 4, 2, (1,), edition=EDITIONS + 1)),
+    (11, family(4, 3, 4, edition=0)),
+    (11, family(4, 3, 0, edition=EDITIONS + 1)),
+    (11, family(5, 3, 4, edition=2)),
+    (11, family(4, 66, 2, edition=0)),
+    (11, family(3, 21, edition=2)),
+    # 3 alone; 3, and 4
+    (3, family(4, 4, 2, (0,), edition=2)),
+    (3, family(4, 3, 4, (0,), edition=2)),
+    # more blocks than models; no blocks
+    (4, family(4, 3, 4, edition=2)),
+    (4, family(4, PLACES - 1, PLACES, edition=2)),
+    (4, family(4, 3, 0, edition=2)),
+    (5, family(4, 66, 2, edition=2)),
+    (5, family(4, 31, 20, edition=2)),
 )
 
 

@@ -8,7 +8,22 @@ number 0, what stands behind the bytes kept stays, and a run goes as many steps 
 from functools import cache
 
 from families import BRANCHES, FITS, PLACES, Filtered, Ranks, count, family, full_name, length, name, refusal
-from samples import BELOW_FLOOR, FLOORS_MISSED, LARGE_FLOORS, LARGEST, SAMPLES, SMALL_FLOORS, WRONG_FLOORS, some_bytes
+from samples import (
+    BELOW_FLOOR,
+    BEYOND_EDITIONS,
+    EDITIONS_MISSED,
+    FLOORS_MISSED,
+    LARGE_EDITIONS,
+    LARGE_FLOORS,
+    LARGEST,
+    NO_PARTITIONS,
+    SAMPLES,
+    SMALL_EDITIONS,
+    SMALL_FLOORS,
+    WRONG_EDITIONS,
+    WRONG_FLOORS,
+    some_bytes,
+)
 from texts import words, write_program
 
 STEPPED, END = 21, 100
@@ -343,19 +358,29 @@ def refused(q, f, x):
     yield Case(f"{label}, made up", f, x, alike(f, [ON, BACK]), (len(x), 0))
 
 
-def floors():
-    """Kind 5 with floors, and floors that are refused, on every kind."""
-    for f in SMALL_FLOORS:
+def of_a_field(small, made_up, large, number, wrong, missed, no_objects):
+    """What is asked of a field of one kind: small families everywhere, one with numbers that no start gives, large ones, values that the question
+    of that number refuses, on every kind, families that miss others, and bytes that are no object."""
+    for f in small:
         yield from everywhere(f)
-    yield from wrong_numbers(family(5, 9, 3, floor=2))
-    for f in LARGE_FLOORS:
-        yield from round_three(f)
-    for f, x in WRONG_FLOORS:
-        yield from refused(10, f, x)
-    for q, f in FLOORS_MISSED:
+    yield from wrong_numbers(made_up)
+    for f in large:
+        yield from round_three(f) if count(f) < FITS else beyond(f)
+    for f, x in wrong:
+        yield from refused(number, f, x)
+    for q, f in missed:
         yield from refused(q, f, some_bytes(f))
-    for f, x in BELOW_FLOOR:
+    for f, x in no_objects:
         yield from refused(7, f, x)
+
+
+def floors():
+    return of_a_field(SMALL_FLOORS, family(5, 9, 3, floor=2), LARGE_FLOORS, 10, WRONG_FLOORS, FLOORS_MISSED, BELOW_FLOOR)
+
+
+def editions():
+    large = LARGE_EDITIONS + BEYOND_EDITIONS
+    return of_a_field(SMALL_EDITIONS, family(4, 5, 3, edition=2), large, 11, WRONG_EDITIONS, EDITIONS_MISSED, NO_PARTITIONS)
 
 
 def main():
@@ -366,6 +391,7 @@ def main():
         "lists_change": lists_change,
         "large_families": large_families,
         "floors": floors,
+        "editions": editions,
     }
     write_program("test_walks", made)
 

@@ -59,7 +59,7 @@ handed kind f b e a = subst (λ (κ : ℕ). Handed f b (rowAt κ f b)) e (by-row
 -- a kind's functions read n or k off an object whose length it is
 
 abbrev pub withSizes : Family → ℕ → ℕ → Family
-withSizes f n k = record { kind = f .kind; n = n; k = k; floor = f .floor }
+withSizes f n k = record { kind = f .kind; n = n; k = k; floor = f .floor; edition = f .edition }
 
 abbrev pub withN : Family → ℕ → Family
 withN f n = withSizes f n (f .k)

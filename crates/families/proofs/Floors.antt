@@ -15,14 +15,14 @@ use Rattle.integer_partitions.specs.Listing.{integerPartitions}
 use Rattle.integer_partitions.proofs.Floors.{floor-keeps}
 use Rattle.families.specs.declared.Family.{Family}
 use Rattle.families.specs.Table.{Lent, plainFamily, noCounts, integerPartitionRow}
-use Rattle.families.specs.Families.{row, isKind, inTable, floorFits, listsFit, askedOfAll, allYes, allowed, listing}
+use Rattle.families.specs.Families.{row, isKind, inTable, floorFits, editionFits, listsFit, askedOfAll, allYes, allowed, listing}
 use Rattle.families.proofs.FamilyFacts.{floor-positive}
 use Rattle.families.proofs.Dispatch.{handed}
 use Rattle.families.proofs.Edges.{empty-alone, integer-partitions}
 
 -- the table allows the family of old where it allows one with a floor
 old-allowed : (n k : ℕ) (b : Lent) → (leb n places && leb k places) ≡ true → noCounts b ≡ true → allowed (plainFamily 5 n k) b ≡ true
-unfolding allowed allYes askedOfAll isKind inTable floorFits listsFit row
+unfolding allowed allYes askedOfAll isKind inTable floorFits editionFits listsFit row
 old-allowed n k b bounds fits = rw (bounds, fits)
 
 -- "a walk lists the splits that respect the floor and no others", "The order is unchanged"

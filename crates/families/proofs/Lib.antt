@@ -11,5 +11,6 @@ pub mod Refusals
 pub mod Answered
 pub mod Edges
 pub mod Floors
+pub mod Editions
 pub mod Demand
 pub mod Cases

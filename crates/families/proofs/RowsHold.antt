@@ -14,6 +14,7 @@ use Rattle.listings.specs.Listings.{Listing, Ascending}
 use Rattle.listings.specs.Rows.{Row, RowLaws}
 use Rattle.subsets.proofs.Laws as subset
 use Rattle.anagrams.proofs.Laws as anagram
+use Rattle.set_partitions.specs.KeyOrder.{editionOf}
 use Rattle.set_partitions.proofs.Laws as set-partition
 use Rattle.integer_partitions.proofs.Laws as integer-partition
 use Rattle.dyck_words.proofs.Laws as dyck-word
@@ -60,7 +61,7 @@ lawful-rows f b =
     (more (subset.laws (f .n) (f .k) (noCounts b)) (λ h. refl)
     (more (anagram.laws (f .n) (b .counts) (leb (f .n) places && eqb (f .k) 0)) (λ h. absurd (h refl))
     (more (anagram.permutation-laws (f .n) (f .k) (noCounts b)) (λ h. refl)
-    (more (set-partition.laws (f .n) (f .k) (noCounts b)) (λ h. refl)
+    (more (set-partition.laws (editionOf (f .edition)) (f .n) (f .k) (noCounts b)) (λ h. refl)
     (more (integer-partition.laws (f .floor) (f .n) (f .k) (noCounts b)) (λ h. refl)
     (more (dyck-word.laws (f .n) (f .k) (noCounts b)) (λ h. refl) none))))))
 

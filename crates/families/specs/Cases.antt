@@ -1,4 +1,5 @@
--- The twelve proof cases of paper 01 (SCOPE 8), as one table of facts about the definitions; proofs/Cases.antt proves that all hold.
+-- The twelve proof cases of paper 01 (SCOPE 8), as one table of facts about the definitions, and beside them what edition 2 is said to give;
+-- proofs/Cases.antt proves that all hold.
 -- Assumes nothing.
 use mathlib.Core.Path.{_≡_}
 use mathlib.Core.List.{List, [], _∷_}
@@ -71,4 +72,27 @@ cases =
     ∷ case 6 3 0 [] (ranked (1 ∷ 1 ∷ 0 ∷ 0 ∷ 1 ∷ 0 ∷ []) 2 ∷ ranked (1 ∷ 1 ∷ 1 ∷ 0 ∷ 0 ∷ 0 ∷ []) 4 ∷ [])
     ∷ case 6 4 0 [] (ranked (1 ∷ 1 ∷ 1 ∷ 0 ∷ 0 ∷ 0 ∷ 1 ∷ 0 ∷ []) 8 ∷ ranked (1 ∷ 1 ∷ 0 ∷ 1 ∷ 0 ∷ 1 ∷ 0 ∷ 0 ∷ []) 9 ∷ [])
     ∷ case 6 7 0 [] (next (1 ∷ 1 ∷ 0 ∷ 1 ∷ 1 ∷ 0 ∷ 0 ∷ 0 ∷ 1 ∷ 1 ∷ 1 ∷ 0 ∷ 0 ∷ 0 ∷ []) (1 ∷ 1 ∷ 1 ∷ 0 ∷ 0 ∷ 1 ∷ 0 ∷ 0 ∷ 1 ∷ 0 ∷ 1 ∷ 0 ∷ 1 ∷ 0 ∷ []) ∷ [])
+    ∷ []
+
+-- what edition 2 of kind 4 makes of them (SCOPE 1.f, 2.b): "For four models in two blocks edition 2 therefore ends with 1 1 1 2", and the object that 001 names
+abbrev pub editionCases : List Case
+editionCases =
+    record {
+      family = record { kind = 4; n = 4; k = 2; floor = 1; edition = 2 };
+      beside = onlyCounts [];
+      facts =
+          counted 7
+          ∷ lists
+          ((1 ∷ 2 ∷ 1 ∷ 1 ∷ [])
+          ∷ (1 ∷ 2 ∷ 2 ∷ 1 ∷ [])
+          ∷ (1 ∷ 1 ∷ 2 ∷ 1 ∷ [])
+          ∷ (1 ∷ 2 ∷ 1 ∷ 2 ∷ [])
+          ∷ (1 ∷ 2 ∷ 2 ∷ 2 ∷ [])
+          ∷ (1 ∷ 1 ∷ 2 ∷ 2 ∷ [])
+          ∷ (1 ∷ 1 ∷ 1 ∷ 2 ∷ [])
+          ∷ [])
+          ∷ last (0 ∷ 0 ∷ 0 ∷ 0 ∷ []) (1 ∷ 1 ∷ 1 ∷ 2 ∷ [])
+          ∷ [];
+    }
+    ∷ record { family = record { kind = 4; n = 5; k = 3; floor = 1; edition = 2 }; beside = onlyCounts []; facts = ranked (1 ∷ 1 ∷ 2 ∷ 1 ∷ 3 ∷ []) 20 ∷ [] }
     ∷ []

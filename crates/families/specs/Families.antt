@@ -29,6 +29,10 @@ inTable f b = row f b .inBounds
 unfoldable pub floorFits : Family → Bool
 floorFits f = cond (eqb (f .kind) 5) (leb 1 (f .floor) && leb (f .floor) floors) (eqb (f .floor) 1)
 
+-- question 11: "is the edition 1 or 2, and 1 for every kind but 4?" (SCOPE 4.11)
+unfoldable pub editionFits : Family → Bool
+editionFits f = cond (eqb (f .kind) 4) (leb 1 (f .edition) && leb (f .edition) 2) (eqb (f .edition) 1)
+
 -- question 3: "Is the count list n long for kind 2 with a sum of at most 80, and empty for other kinds?" (SCOPE 4.3)
 unfoldable pub listsFit : Family → Lent → Bool
 listsFit f b = row f b .listsFit
@@ -37,9 +41,10 @@ listsFit f b = row f b .listsFit
 abbrev pub always : ℕ → Bool → Question
 always q answer = record { number = q; yes? = answer }
 
--- the questions that are put to every call (SCOPE 4.1 to 4.3), with 10 between: "question 2 is followed by" it (SCOPE 4.10)
+-- the questions that are put to every call (SCOPE 4.1 to 4.3), with 10 and 11 between: "question 2 is followed by" 10 (SCOPE 4.10), and "after number 10's
+-- question comes" 11 (SCOPE 4.11)
 unfoldable pub askedOfAll : Family → Lent → List Question
-askedOfAll f b = always 1 (isKind f) ∷ always 2 (inTable f b) ∷ always 10 (floorFits f) ∷ always 3 (listsFit f b) ∷ []
+askedOfAll f b = always 1 (isKind f) ∷ always 2 (inTable f b) ∷ always 10 (floorFits f) ∷ always 11 (editionFits f) ∷ always 3 (listsFit f b) ∷ []
 
 -- are all answers yes?
 unfoldable pub allYes : List Question → Bool

@@ -40,7 +40,7 @@ rankGiven PREVIOUS = 0
 rankGiven RANK = 0
 rankGiven (UNRANK r) = r
 
--- the questions about the family alone: those put to all (SCOPE 4.1 to 4.3, 4.10), and "has the family an object?" (SCOPE 4.4)
+-- the questions about the family alone: those put to all (SCOPE 4.1 to 4.3, 4.10, 4.11), and "has the family an object?" (SCOPE 4.4)
 unfoldable pub opening : Call → Family → Lent → List Question
 opening c f b = askedOfAll f b ++ (put c 4 (ltb 0 (countOf f b)) ∷ [])
 
@@ -54,9 +54,9 @@ closingFor c count long size holds =
 unfoldable pub refusal : Call → Family → Lent → ℕ → Bool → Option ℕ
 refusal c f b size holds = firstNo (opening c f b ++ closingFor c (countOf f b) (objectLength f b) size holds)
 
--- the largest number of a question that a call is put (SCOPE 4.10)
+-- the largest number of a question that a call is put (SCOPE 4.11)
 abbrev pub lastQuestion : ℕ
-lastQuestion = 10
+lastQuestion = 11
 
 -- questions 5 and 8 for a rank and a count, whatever the call (SCOPE 4.5, 4.8)
 unfoldable pub rankRefusal : ℕ → ℕ → Option ℕ

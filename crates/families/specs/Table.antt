@@ -14,6 +14,7 @@ use Rattle.subsets.specs.Listing.{subsets}
 use Rattle.anagrams.specs.Objects.{isAnagram, anagramBefore}
 use Rattle.anagrams.specs.Listing.{anagrams}
 use Rattle.anagrams.specs.Permutations.{isPermutation, permutations}
+use Rattle.set_partitions.specs.KeyOrder.{editionOf}
 use Rattle.set_partitions.specs.Objects.{isSetPartition, setPartitionBefore}
 use Rattle.set_partitions.specs.Listing.{setPartitions}
 use Rattle.integer_partitions.specs.Objects.{isIntegerPartition, integerPartitionBefore}
@@ -35,9 +36,10 @@ lent lists = record { counts = getD lists 0 [] }
 abbrev pub onlyCounts : List ℕ → Lent
 onlyCounts counts = lent (counts ∷ [])
 
--- a family of which no more is said than this: "Floor 1 is the split of old" (SCOPE 1.e); later fields have their defaults
+-- a family of which no more is said than this: "Floor 1 is the split of old" (SCOPE 1.e), and edition 1 the order of old (SCOPE 1.f); later fields have
+-- their defaults
 abbrev pub plainFamily : ℕ → ℕ → ℕ → Family
-plainFamily kind n k = record { kind = kind; n = n; k = k; floor = 1 }
+plainFamily kind n k = record { kind = kind; n = n; k = k; floor = 1; edition = 1 }
 
 -- "empty for other kinds" (SCOPE 4.3)
 unfoldable pub noCounts : Lent → Bool
@@ -83,15 +85,16 @@ permutationRow f b = record {
   hasObject = true;
 }
 
--- 4 flask sharing: "n, k 0 to 80", "byte i is the block of model i" (SCOPE 1.4); "no object when k > n", "none when k = 0 < n" (SCOPE 1.b)
+-- 4 flask sharing: "n, k 0 to 80", "byte i is the block of model i" (SCOPE 1.4); "no object when k > n", "none when k = 0 < n" (SCOPE 1.b); "edition 1 or
+-- 2" says the order (SCOPE 1.f)
 abbrev pub setPartitionRow : Family → Lent → Row
 setPartitionRow f b = record {
   inBounds = leb (f .n) places && leb (f .k) places;
   listsFit = noCounts b;
   objectLength = f .n;
   isObject = isSetPartition (f .n) (f .k);
-  comesBefore = setPartitionBefore;
-  listing = setPartitions (f .n) (f .k);
+  comesBefore = setPartitionBefore (editionOf (f .edition));
+  listing = setPartitions (editionOf (f .edition)) (f .n) (f .k);
   number = stirlingOf (f .n) (f .k);
   hasObject = leb (f .k) (f .n) && (ltb 0 (f .k) || eqb (f .n) 0);
 }

@@ -46,11 +46,12 @@ pub fn first<'a>(f: Family, lists: Lists<'a>, object: &mut [u8])
     let n = f.n;
     let k = f.k;
     let floor = f.floor;
+    let edition = f.edition;
     match kind {
         1 => subsets::first(n, object),
         2 => anagrams::first(counts, object),
         3 => permutations::first(object),
-        4 => set_partitions::first(k, object),
+        4 => set_partitions::first(edition, k, object),
         5 => integer_partitions::first(floor, n, object),
         6 => dyck_words::first(n, object),
         _ => {}
@@ -68,11 +69,12 @@ pub fn last<'a>(f: Family, lists: Lists<'a>, object: &mut [u8])
     let n = f.n;
     let k = f.k;
     let floor = f.floor;
+    let edition = f.edition;
     match kind {
         1 => subsets::last(n, object),
         2 => anagrams::last(counts, object),
         3 => permutations::last(object),
-        4 => set_partitions::last(k, object),
+        4 => set_partitions::last(edition, k, object),
         5 => integer_partitions::last(floor, n, object),
         6 => dyck_words::last(n, object),
         _ => {}
@@ -87,11 +89,12 @@ pub fn next<'a>(f: Family, lists: Lists<'a>, object: &mut [u8]) -> Step
     let n = f.n;
     let k = f.k;
     let floor = f.floor;
+    let edition = f.edition;
     match kind {
         1 => subsets::next(n, object),
         2 => anagrams::next(object),
         3 => anagrams::next(object),
-        4 => set_partitions::next(k, object),
+        4 => set_partitions::next(edition, k, object),
         5 => integer_partitions::next(floor, n, object),
         6 => dyck_words::next(n, object),
         _ => Step::End,
@@ -106,11 +109,12 @@ pub fn previous<'a>(f: Family, lists: Lists<'a>, object: &mut [u8]) -> Step
     let n = f.n;
     let k = f.k;
     let floor = f.floor;
+    let edition = f.edition;
     match kind {
         1 => subsets::previous(n, object),
         2 => anagrams::previous(object),
         3 => anagrams::previous(object),
-        4 => set_partitions::previous(k, object),
+        4 => set_partitions::previous(edition, k, object),
         5 => integer_partitions::previous(floor, n, object),
         6 => dyck_words::previous(n, object),
         _ => Step::End,
@@ -127,11 +131,12 @@ pub fn rank<'a>(f: Family, lists: Lists<'a>, object: &[u8]) -> u64
     let n = f.n;
     let k = f.k;
     let floor = f.floor;
+    let edition = f.edition;
     match kind {
         1 => subsets::rank(n, object),
         2 => anagram_ranks::rank(counts, object),
         3 => anagram_ranks::permutations::rank(object),
-        4 => set_partitions::rank(k, object),
+        4 => set_partition_ranks::rank(edition, k, object),
         5 => integer_partitions::rank(floor, n, object),
         6 => dyck_ranks::rank(n, object),
         _ => 0,
@@ -150,11 +155,12 @@ pub fn unrank<'a>(rank: u64, f: Family, lists: Lists<'a>, object: &mut [u8])
     let n = f.n;
     let k = f.k;
     let floor = f.floor;
+    let edition = f.edition;
     match kind {
         1 => subsets::unrank(rank, n, object),
         2 => anagram_ranks::unrank(rank, counts, object),
         3 => anagram_ranks::permutations::unrank(rank, object),
-        4 => set_partitions::unrank(rank, k, object),
+        4 => set_partition_ranks::unrank(rank, edition, k, object),
         5 => integer_partitions::unrank(rank, floor, n, object),
         6 => dyck_ranks::unrank(rank, n, object),
         _ => {}

@@ -25,12 +25,14 @@ pub use questions::ask;
 use table::Size;
 
 // "A family is passed by value: its kind, n and k, each an unsigned 64-bit number." "A family gains a floor", which every part of kind 5 has at least.
+// "A family says edition 1 or 2", by which kind 4 is ordered.
 #[repr(C)]
 pub struct Family {
     pub kind: u64,
     pub n: u64,
     pub k: u64,
     pub floor: u64,
+    pub edition: u64,
 }
 
 // Everything lent beside a family, by place: the letter counts of kind 2.
@@ -67,7 +69,7 @@ pub enum Length {
     Refused(u8),
 }
 
-// A family of which no more is said than this: the floor, and later fields, have their defaults.
+// A family of which no more is said than this: floor and edition, and later fields, have their defaults.
 pub fn plain_family(kind: u64, n: u64, k: u64) -> Family
     ensures { λ r. ⌜ r ≡ plainFamily kind n k ⌝ }
 {
@@ -76,6 +78,7 @@ pub fn plain_family(kind: u64, n: u64, k: u64) -> Family
         n,
         k,
         floor: 1,
+        edition: 1,
     }
 }
 

@@ -93,6 +93,9 @@ pub fn asked_of_all<'a>(f: Family, lists: Lists<'a>) -> Verdict
     if !table::floor_fits(f) {
         return Verdict::No(10);
     }
+    if !table::edition_fits(f) {
+        return Verdict::No(11);
+    }
     if !table::lists_fit(f, lists) {
         return Verdict::No(3);
     }

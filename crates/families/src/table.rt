@@ -9,7 +9,7 @@ ghost use Rattle.basics.specs.Sums.{total};
 ghost use Rattle.numbers.specs.Numbers.{stirlingOf};
 ghost use Rattle.counting.specs.Answers.{fits as fitsOf};
 ghost use Rattle.families.specs.Table.{lent};
-ghost use Rattle.families.specs.Families.{row, isKind, inTable, floorFits, listsFit, allowed, objectLength, countOf};
+ghost use Rattle.families.specs.Families.{row, isKind, inTable, floorFits, editionFits, listsFit, allowed, objectLength, countOf};
 ghost use Rattle.families.specs.Questions.{rankRefusal};
 ghost use Rattle.families.specs.inner.Sizes.{sizeAs};
 ghost use Rattle.families.specs.inner.Bounds.{mostN, mostK};
@@ -79,6 +79,19 @@ pub fn floor_fits(f: Family) -> bool
         return false;
     }
     1 <= f.floor && f.floor <= FLOORS
+}
+
+// Question 11. Edition 1, which nearly every family has, is tested first.
+pub fn edition_fits(f: Family) -> bool
+    ensures { λ r. ⌜ r ≡ editionFits f ⌝ }
+{
+    if f.edition == 1 {
+        return true;
+    }
+    if f.kind != 4 {
+        return false;
+    }
+    f.edition == 2
 }
 
 // Question 3.

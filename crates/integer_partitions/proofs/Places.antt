@@ -14,7 +14,7 @@ use Rattle.basics.specs.Sums.{total}
 use Rattle.basics.proofs.Bools.{and-makes}
 use Rattle.basics.proofs.Totals.{total-append}
 use Rattle.listings.specs.Bytes.{Bytes}
-use Rattle.listings.specs.Orders.{colexBefore}
+use Rattle.listings.specs.Orders.{colexBy, colexBefore}
 use Rattle.listings.specs.Places.{First, Last}
 use Rattle.listings.proofs.OrderFacts.{colex-cases}
 use Rattle.listings.proofs.Ranks.{least-first, greatest-last}
@@ -28,7 +28,7 @@ abbrev Differs : Bytes → Bytes → Type 0
 Differs x y = (i : ℕ) × (i < length x) × (i < length y) × (getD x i 0 < getD y i 0) × (drop (suc i) x ≡ drop (suc i) y)
 
 differs : (x y : Bytes) → colexBefore x y ≡ true → Differs x y
-unfolding colexBefore
+unfolding colexBy
 differs [] y h = absurd (false≢true h)
 differs (a ∷ x) [] h = absurd (false≢true h)
 differs (a ∷ x) (b ∷ y) h = step (differs x y) (colex-cases a b x y h)

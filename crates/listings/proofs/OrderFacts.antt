@@ -1,7 +1,7 @@
 -- The orders by the first place and by the last place at which two byte strings differ are strict total orders on strings of one length.
 -- Assumes nothing.
 use mathlib.Core.Path.{_≡_, refl, sym, _∙_, ap₂}
-use mathlib.Core.Logic.{_⊎_, inl, inr}
+use mathlib.Core.Logic.{_⊎_, inl, inr, ⊎-elim}
 use mathlib.Core.Bool.{Bool, true, false, _&&_, _||_, false≢true, and-true as and-with-true, and-false, or-false}
 use mathlib.Core.List.{[], _∷_, _++_}
 use Prim.Native.Nat.{ℕ, _<_}
@@ -13,7 +13,7 @@ use lib.ListN.{length}
 use borrow.Author.Tests.{ltb-true, lt-ltb, eqb-true, eq-eqb}
 use Rattle.listings.specs.Bytes.{Bytes, same}
 use Rattle.listings.specs.Listings.{StrictTotal}
-use Rattle.listings.specs.Orders.{lexBefore, colexBefore}
+use Rattle.listings.specs.Orders.{lexBefore, colexBy, colexBefore}
 use Rattle.basics.proofs.Bools.{and-true, and-makes, or-cases, or-left, or-right}
 use Rattle.listings.proofs.SameBytes.{eq-same, same-eq, same-snoc}
 
@@ -94,67 +94,69 @@ lex-strict object k sized = record {
   total = λ x y o p. lex-total x y (sized x o ∙ sym (sized y p));
 }
 
--- by the last place that differs
+-- by the last place that differs, over any order of the letters
 
-pub colex-cases : (a b : ℕ) (x y : Bytes) → colexBefore (a ∷ x) (b ∷ y) ≡ true → (colexBefore x y ≡ true) ⊎ ((x ≡ y) × (a < b))
-unfolding colexBefore
-colex-cases a b x y e = step (or-cases (colexBefore x y) (same x y && ltb a b) e)
-  where
-    step : (colexBefore x y ≡ true) ⊎ ((same x y && ltb a b) ≡ true) → (colexBefore x y ≡ true) ⊎ ((x ≡ y) × (a < b))
-    step (inl h) = inl h
-    step (inr h) = let both = and-true (same x y) (ltb a b) h in inr (same-eq x y (both .0), ltb-true a b (both .1))
+-- a strict total order of numbers
+abbrev pub Ordered : (ℕ → ℕ → Bool) → Type 0
+Ordered lt = StrictTotal (λ (a : ℕ). true) lt
 
-pub colex-later : (a b : ℕ) (x y : Bytes) → colexBefore x y ≡ true → colexBefore (a ∷ x) (b ∷ y) ≡ true
-unfolding colexBefore
-colex-later a b x y h = or-left (same x y && ltb a b) h
-
-pub colex-tie : (a b : ℕ) (x y : Bytes) → x ≡ y → a < b → colexBefore (a ∷ x) (b ∷ y) ≡ true
-unfolding colexBefore
-colex-tie a b x y p h = or-right (colexBefore x y) (and-makes (eq-same p) (lt-ltb a b h))
-
-pub colex-irreflexive : (x : Bytes) → colexBefore x x ≡ true → ⊥
-unfolding colexBefore
-colex-irreflexive [] e = false≢true e
-colex-irreflexive (a ∷ x) e = step (colex-irreflexive x) (colex-cases a a x x e)
-  where
-    step : (colexBefore x x ≡ true → ⊥) → (colexBefore x x ≡ true) ⊎ ((x ≡ x) × (a < a)) → ⊥
-    step later (inl h) = later h
-    step later (inr h) = omega arith
-
-pub colex-transitive : (x y z : Bytes) → colexBefore x y ≡ true → colexBefore y z ≡ true → colexBefore x z ≡ true
-unfolding colexBefore
-colex-transitive [] y z e f = absurd (false≢true e)
-colex-transitive (a ∷ x) [] z e f = absurd (false≢true e)
-colex-transitive (a ∷ x) (b ∷ y) [] e f = absurd (false≢true f)
-colex-transitive (a ∷ x) (b ∷ y) (c ∷ z) e f = step (colex-transitive x y z) (colex-cases a b x y e) (colex-cases b c y z f)
-  where
-    step : (colexBefore x y ≡ true → colexBefore y z ≡ true → colexBefore x z ≡ true) → (colexBefore x y ≡ true) ⊎ ((x ≡ y) × (a < b)) → (colexBefore y z ≡ true) ⊎ ((y ≡ z) × (b < c))
-        → colexBefore (a ∷ x) (c ∷ z) ≡ true
-    step later (inl h) (inl k) = colex-later a c x z (later h k)
-    step later (inl h) (inr k) = colex-later a c x z (rw (k .0) at h)
-    step later (inr h) (inl k) = colex-later a c x z (rw (h .0) k)
-    step later (inr h) (inr k) = colex-tie a c x z (h .0 ∙ k .0) (omega arith)
-
-pub colex-total : (x y : Bytes) → length x ≡ length y → (colexBefore x y ≡ true) ⊎ ((x ≡ y) ⊎ (colexBefore y x ≡ true))
-colex-total [] [] h = inr (inl refl)
-colex-total [] (b ∷ y) h = absurd (omega arith)
-colex-total (a ∷ x) [] h = absurd (omega arith)
-colex-total (a ∷ x) (b ∷ y) h = step (colex-total x y (omega arith)) (trichotomy a b)
-  where
-    step : (colexBefore x y ≡ true) ⊎ ((x ≡ y) ⊎ (colexBefore y x ≡ true)) → (a < b) ⊎ ((a ≡ b) ⊎ (b < a))
-        → (colexBefore (a ∷ x) (b ∷ y) ≡ true) ⊎ ((a ∷ x ≡ b ∷ y) ⊎ (colexBefore (b ∷ y) (a ∷ x) ≡ true))
-    step (inl p) q = inl (colex-later a b x y p)
-    step (inr (inr p)) q = inr (inr (colex-later b a y x p))
-    step (inr (inl p)) (inl q) = inl (colex-tie a b x y p q)
-    step (inr (inl p)) (inr (inl q)) = inr (inl (cons-equal q p))
-    step (inr (inl p)) (inr (inr q)) = inr (inr (colex-tie b a y x (sym p) q))
-
-pub colex-strict : (object : Bytes → Bool) (k : ℕ) → ((x : Bytes) → object x ≡ true → length x ≡ k) → StrictTotal object colexBefore
-colex-strict object k sized = record {
-  irreflexive = λ x o. colex-irreflexive x;
-  transitive = λ x y z o p q. colex-transitive x y z;
-  total = λ x y o p. colex-total x y (sized x o ∙ sym (sized y p));
+pub smaller-ordered : Ordered ltb
+smaller-ordered = record {
+  irreflexive = λ a o h. omega (arith, ltb-true a a h);
+  transitive = λ a b c o p q h k. lt-ltb a c (omega (arith, ltb-true a b h, ltb-true b c k));
+  total = λ a b o p. ⊎-elim (λ h. inl (lt-ltb a b h)) (λ r. inr (⊎-elim inl (λ h. inr (lt-ltb b a h)) r)) (trichotomy a b);
 }
+
+module _ (lt : ℕ → ℕ → Bool) where
+  by-cases : (a b : ℕ) (x y : Bytes) → colexBy lt (a ∷ x) (b ∷ y) ≡ true → (colexBy lt x y ≡ true) ⊎ ((x ≡ y) × (lt a b ≡ true))
+  unfolding colexBy
+  by-cases a b x y e = step (or-cases (colexBy lt x y) (same x y && lt a b) e)
+    where
+      step : (colexBy lt x y ≡ true) ⊎ ((same x y && lt a b) ≡ true) → (colexBy lt x y ≡ true) ⊎ ((x ≡ y) × (lt a b ≡ true))
+      step (inl h) = inl h
+      step (inr h) = let both = and-true (same x y) (lt a b) h in inr (same-eq x y (both .0), both .1)
+
+  by-later : (a b : ℕ) (x y : Bytes) → colexBy lt x y ≡ true → colexBy lt (a ∷ x) (b ∷ y) ≡ true
+  unfolding colexBy
+  by-later a b x y h = or-left (same x y && lt a b) h
+
+  by-tie : (a b : ℕ) (x y : Bytes) → x ≡ y → lt a b ≡ true → colexBy lt (a ∷ x) (b ∷ y) ≡ true
+  unfolding colexBy
+  by-tie a b x y p h = or-right (colexBy lt x y) (and-makes (eq-same p) h)
+
+module _ {lt : ℕ → ℕ → Bool} (order : Ordered lt) where
+  pub by-irreflexive : (x : Bytes) → colexBy lt x x ≡ true → ⊥
+  unfolding colexBy
+  by-irreflexive [] e = false≢true e
+  by-irreflexive (a ∷ x) e = ⊎-elim (by-irreflexive x) (λ h. order .irreflexive a refl (h .1)) (by-cases lt a a x x e)
+
+  pub by-transitive : (x y z : Bytes) → colexBy lt x y ≡ true → colexBy lt y z ≡ true → colexBy lt x z ≡ true
+  unfolding colexBy
+  by-transitive [] y z e f = absurd (false≢true e)
+  by-transitive (a ∷ x) [] z e f = absurd (false≢true e)
+  by-transitive (a ∷ x) (b ∷ y) [] e f = absurd (false≢true f)
+  by-transitive (a ∷ x) (b ∷ y) (c ∷ z) e f = step (by-transitive x y z) (by-cases lt a b x y e) (by-cases lt b c y z f)
+    where
+      step : (colexBy lt x y ≡ true → colexBy lt y z ≡ true → colexBy lt x z ≡ true) → (colexBy lt x y ≡ true) ⊎ ((x ≡ y) × (lt a b ≡ true)) → (colexBy lt y z ≡ true) ⊎ ((y ≡ z) × (lt b c ≡ true))
+          → colexBy lt (a ∷ x) (c ∷ z) ≡ true
+      step later (inl h) (inl k) = by-later lt a c x z (later h k)
+      step later (inl h) (inr k) = by-later lt a c x z (rw (k .0) at h)
+      step later (inr h) (inl k) = by-later lt a c x z (rw (h .0) k)
+      step later (inr h) (inr k) = by-tie lt a c x z (h .0 ∙ k .0) (order .transitive a b c refl refl refl (h .1) (k .1))
+
+  pub by-total : (x y : Bytes) → length x ≡ length y → (colexBy lt x y ≡ true) ⊎ ((x ≡ y) ⊎ (colexBy lt y x ≡ true))
+  by-total [] [] h = inr (inl refl)
+  by-total [] (b ∷ y) h = absurd (omega arith)
+  by-total (a ∷ x) [] h = absurd (omega arith)
+  by-total (a ∷ x) (b ∷ y) h = step (by-total x y (omega arith)) (order .total a b refl refl)
+    where
+      step : (colexBy lt x y ≡ true) ⊎ ((x ≡ y) ⊎ (colexBy lt y x ≡ true)) → (lt a b ≡ true) ⊎ ((a ≡ b) ⊎ (lt b a ≡ true))
+          → (colexBy lt (a ∷ x) (b ∷ y) ≡ true) ⊎ ((a ∷ x ≡ b ∷ y) ⊎ (colexBy lt (b ∷ y) (a ∷ x) ≡ true))
+      step (inl p) q = inl (by-later lt a b x y p)
+      step (inr (inr p)) q = inr (inr (by-later lt b a y x p))
+      step (inr (inl p)) (inl q) = inl (by-tie lt a b x y p q)
+      step (inr (inl p)) (inr (inl q)) = inr (inl (cons-equal q p))
+      step (inr (inl p)) (inr (inr q)) = inr (inr (by-tie lt b a y x (sym p) q))
 
 -- one more byte at the end of both comes first in the order by the last place
 
@@ -163,18 +165,30 @@ regroup true tie later equal front = refl
 regroup false true later equal front = rw (and-with-true equal)
 regroup false false later equal front = rw (and-false equal)
 
-pub colex-snoc : (x y : Bytes) (a b : ℕ) → length x ≡ length y → colexBefore (x ++ (a ∷ [])) (y ++ (b ∷ [])) ≡ (ltb a b || (eqb a b && colexBefore x y))
-unfolding colexBefore same
-colex-snoc [] [] a b h = rw (and-false (eqb a b)) (sym (or-false (ltb a b)))
-colex-snoc [] (d ∷ y) a b h = absurd (omega arith)
-colex-snoc (c ∷ x) [] a b h = absurd (omega arith)
-colex-snoc (c ∷ x) (d ∷ y) a b h =
-    rw (colex-snoc x y a b (omega arith), same-snoc x y a b (omega arith)) (regroup (ltb a b) (eqb a b) (colexBefore x y) (same x y) (ltb c d))
+pub by-snoc : (lt : ℕ → ℕ → Bool) (x y : Bytes) (a b : ℕ) → length x ≡ length y → colexBy lt (x ++ (a ∷ [])) (y ++ (b ∷ [])) ≡ (lt a b || (eqb a b && colexBy lt x y))
+unfolding colexBy same
+by-snoc lt [] [] a b h = rw (and-false (eqb a b)) (sym (or-false (lt a b)))
+by-snoc lt [] (d ∷ y) a b h = absurd (omega arith)
+by-snoc lt (c ∷ x) [] a b h = absurd (omega arith)
+by-snoc lt (c ∷ x) (d ∷ y) a b h =
+    rw (by-snoc lt x y a b (omega arith), same-snoc x y a b (omega arith)) (regroup (lt a b) (eqb a b) (colexBy lt x y) (same x y) (lt c d))
+
+-- by the smaller letter
+
+pub colex-cases : (a b : ℕ) (x y : Bytes) → colexBefore (a ∷ x) (b ∷ y) ≡ true → (colexBefore x y ≡ true) ⊎ ((x ≡ y) × (a < b))
+colex-cases a b x y e = ⊎-elim inl (λ h. inr (h .0, ltb-true a b (h .1))) (by-cases ltb a b x y e)
+
+pub colex-strict : (object : Bytes → Bool) (k : ℕ) → ((x : Bytes) → object x ≡ true → length x ≡ k) → StrictTotal object colexBefore
+colex-strict object k sized = record {
+  irreflexive = λ x o. by-irreflexive smaller-ordered x;
+  transitive = λ x y z o p q. by-transitive smaller-ordered x y z;
+  total = λ x y o p. by-total smaller-ordered x y (sized x o ∙ sym (sized y p));
+}
 
 -- a smaller last number comes first, whatever stands in front
 pub smaller-last : (x y : Bytes) (a b : ℕ) → length x ≡ length y → a < b → colexBefore (x ++ (a ∷ [])) (y ++ (b ∷ [])) ≡ true
-smaller-last x y a b h l = colex-snoc x y a b h ∙ or-left (eqb a b && colexBefore x y) (lt-ltb a b l)
+smaller-last x y a b h l = by-snoc ltb x y a b h ∙ or-left (eqb a b && colexBefore x y) (lt-ltb a b l)
 
 -- and with the same last number the one with the earlier front
 pub earlier-front : (x y : Bytes) (a : ℕ) → length x ≡ length y → colexBefore x y ≡ true → colexBefore (x ++ (a ∷ [])) (y ++ (a ∷ [])) ≡ true
-earlier-front x y a h l = colex-snoc x y a a h ∙ or-right (ltb a a) (and-makes (eq-eqb a a refl) l)
+earlier-front x y a h l = by-snoc ltb x y a a h ∙ or-right (ltb a a) (and-makes (eq-eqb a a refl) l)

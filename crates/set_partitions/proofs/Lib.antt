@@ -4,9 +4,6 @@ pub mod Theorem
 pub mod Laws
 pub mod Places
 pub mod Neighbours
-pub mod Ranks
 pub mod Testing
 pub mod KeyOrder
-pub mod KeyReading
-pub mod InBand
 pub mod Meaning

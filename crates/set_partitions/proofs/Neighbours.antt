@@ -1,7 +1,7 @@
 -- Where no key in front of a place can move, the models in front of it are the last partition, or, going back, the first. What a step there makes
 -- of the whole: those behind it keep neighbours. Assumes nothing.
 use mathlib.Core.Path.{_≡_, sym, _∙_, ap, subst, subst₂, subst₃}
-use mathlib.Core.Bool.{Bool, true, false, not, false≢true}
+use mathlib.Core.Bool.{Bool, true, false, not}
 use mathlib.Core.List.{[], _∷_, _++_}
 use Prim.Native.Nat.{ℕ, zero, suc, _+_, _-_, _≤_, _<_, max}
 use native.Mathlib.Nat.{add-zero, suc-add, add-suc}
@@ -14,126 +14,115 @@ use Rattle.listings.specs.Bytes.{Bytes}
 use Rattle.listings.specs.Directions.{Beside, Edge}
 use Rattle.listings.specs.Places.{Follows}
 use Rattle.listings.proofs.ChoicePlaces.{inside-choice, beside-seam, Tail, ends, then, tail-beside}
+use Rattle.set_partitions.specs.KeyOrder.{Edition, keysInOrder}
 use Rattle.set_partitions.specs.Objects.{opens}
-use Rattle.set_partitions.specs.Listing.{keysInOrder, othersIn, blockOf, setPartitions}
-use Rattle.set_partitions.specs.inner.Moves.{moves, keyBeside, blockBefore, movesAt, Reached}
+use Rattle.set_partitions.specs.Listing.{othersIn, setPartitions}
+use Rattle.set_partitions.specs.inner.Moves.{opensLate, moves, keyTo, usedBefore, movesAt, FirstMove}
 use Rattle.set_partitions.proofs.Facts.{Opened, opens-cases, keyAt, key-found}
-use Rattle.set_partitions.proofs.KeyOrder.{key-listed, first-stays, Goes, goes}
+use Rattle.set_partitions.proofs.KeyOrder.{key-listed, Goes, goes, Becomes}
 use Rattle.set_partitions.proofs.Theorem.{others, behind}
 use Rattle.set_partitions.proofs.Places.{none-edge, edge-kept, edge-fits}
 
--- the models in front of place r, the last of them in block u, and the others
+-- the models in front of place r, in the blocks 1 to u, and the others
 
-record Front (up : Bool) (k r u : ℕ) (x : Bytes) : Type 0 where
-  end : Edge up (setPartitions r u) (take r x)
+record EndInFront (e : Edition) (up : Bool) (k r u : ℕ) (x : Bytes) : Type 0 where
+  end : Edge up (setPartitions e r u) (take r x)
   rest : opens u k (drop r x) ≡ true
 
-opened : {up : Bool} (k r u : ℕ) (x : Bytes) → r < length x → Front up k r u x → Opened u k (getD x r 0) (drop (suc r) x)
+opened : {e : Edition} {up : Bool} (k r u : ℕ) (x : Bytes) → r < length x → EndInFront e up k r u x → Opened u k (getD x r 0) (drop (suc r) x)
 opened k r u x inside f = opens-cases u k (getD x r 0) (drop (suc r) x) (rw (drop-cons x r 0 inside) at (f .rest))
 
-front : (up : Bool) (k r : ℕ) (x : Bytes) → opens 0 k x ≡ true → r ≤ length x → ((i : ℕ) → i < r → movesAt up x i ≡ false) → Front up k r (blockBefore x r) x
-front up k zero x o h passed = record { end = none-edge up; rest = o }
-front up k (suc r) x o h passed =
-    let u : ℕ = blockBefore x r in
+front : (e : Edition) (up : Bool) (k r : ℕ) (x : Bytes) → opens 0 k x ≡ true → r ≤ length x → ((i : ℕ) → i < r → movesAt (opensLate e up) up x i ≡ false) → EndInFront e up k r (usedBefore x r) x
+unfolding usedBefore
+front e up k zero x o h passed = record { end = none-edge e up; rest = o }
+front e up k (suc r) x o h passed =
+    let u : ℕ = usedBefore x r in
     let b : ℕ = getD x r 0 in
-    let p = front up k r x o (omega arith) (λ i l. passed i (omega arith)) in
+    let p = front e up k r x o (omega arith) (λ i l. passed i (omega arith)) in
     let f = opened k r u x h p in
-    let (high, end) = edge-kept r u b (f .from) (f .upto) (passed r (omega arith)) (p .end) in
-    let all : max u b ≡ b = omega arith in
-    record { end = rw (take-suc x r 0 h) end; rest = rw all at (f .rest) }
+    let all : max u b ≡ suc (max u b - 1) = omega (arith, f .from) in
+    record {
+      end = rw (take-suc x r 0 h) (subst (λ m. Edge up (setPartitions e (suc r) m) (take r x ++ (b ∷ []))) (sym all) (edge-kept e r u b (max u b - 1) (f .from) (f .upto) all up (passed r (omega arith)) (p .end)));
+      rest = f .rest;
+    }
+
+-- the first model is in block 1
+pub first-block : (k : ℕ) (x : Bytes) → opens 0 k x ≡ true → 0 < length x → getD x 0 0 ≡ 1
+first-block k [] o some = absurd (omega arith)
+first-block k (b ∷ x) o some = let f = opens-cases 0 k b x o in omega (arith, f .from, f .upto)
 
 -- all are passed
-pub all-passed : {up : Bool} (k r : ℕ) (x : Bytes) → opens 0 k x ≡ true → Reached up x r → r ≡ length x → Edge up (setPartitions (length x) k) x
+pub all-passed : {up : Bool} (e : Edition) (k : ℕ) (x : Bytes) → opens 0 k x ≡ true → ((i : ℕ) → i < length x → movesAt (opensLate e up) up x i ≡ false) → Edge up (setPartitions e (length x) k) x
 unfolding opens
-all-passed {up} k r x o s e =
-    let f = subst (λ i. Front up k i (blockBefore x i) x) e (front up k r x o (s .within) (s .passed)) in
-    let u : ℕ = blockBefore x (length x) in
-    subst₂ (λ j z. Edge up (setPartitions (length x) j) z) (eqb-true u k (subst (λ z. opens u k z ≡ true) (drop-length x) (f .rest))) (take-length x) (f .end)
+all-passed {up} e k x o passed =
+    let f = front e up k (length x) x o (omega arith) passed in
+    let v : ℕ = usedBefore x (length x) in
+    subst₂ (λ j z. Edge up (setPartitions e (length x) j) z) (eqb-true v k (subst (λ z. opens v k z ≡ true) (drop-length x) (f .rest))) (take-length x) (f .end)
 
 -- the same models behind two neighbours leave them neighbours
 
-same-key : (n k c : ℕ) {x y : Bytes} → c ≤ suc k → Follows (setPartitions n (othersIn k c)) x y → Follows (setPartitions (suc n) (suc k)) (behind k c x) (behind k c y)
+same-key : (e : Edition) (n k c : ℕ) {x y : Bytes} → c ≤ suc k → Follows (setPartitions e n (othersIn k c)) x y → Follows (setPartitions e (suc n) (suc k)) (behind k c x) (behind k c y)
 unfolding setPartitions
-same-key n k c h f = inside-choice (others n k) (behind k) (key-listed (suc k) c h) f
+same-key e n k c h f = inside-choice (others e n k) (behind k) (key-listed e (suc k) c h) f
 
-same-block : (n m b : ℕ) → 1 ≤ b → b ≤ suc m → (x y : Bytes) → Follows (setPartitions n m) x y → Follows (setPartitions (suc n) (max m b)) (x ++ (b ∷ [])) (y ++ (b ∷ []))
-same-block n m b from upto x y f =
+same-block : (e : Edition) (n m b : ℕ) → 1 ≤ b → b ≤ suc m → (x y : Bytes) → Follows (setPartitions e n m) x y → Follows (setPartitions e (suc n) (max m b)) (x ++ (b ∷ [])) (y ++ (b ∷ []))
+same-block e n m b from upto x y f =
     let k : ℕ = max m b - 1 in
     let all : suc k ≡ max m b = omega arith in
     let t = key-found m k b from upto (sym all) in
-    subst₂ (λ a d. Follows (setPartitions (suc n) a) (x ++ (d ∷ [])) (y ++ (d ∷ []))) all (sym (t .block)) (same-key n k (keyAt m b) (t .small) (subst (λ j. Follows (setPartitions n j) x y) (t .others) f))
+    subst₂ (λ a d. Follows (setPartitions e (suc n) a) (x ++ (d ∷ [])) (y ++ (d ∷ []))) all (sym (t .block)) (same-key e n k (keyAt m b) (t .small) (subst (λ j. Follows (setPartitions e n j) x y) (t .others) f))
 
-abbrev Rest : ℕ × ℕ → Bytes → ℕ × ℕ → Type 0
-Rest = Tail (λ s. setPartitions (s .0) (s .1))
+abbrev Rest : Edition → ℕ × ℕ → Bytes → ℕ × ℕ → Type 0
+Rest e = Tail (λ s. setPartitions e (s .0) (s .1))
 
-same-rest : (n m k : ℕ) (z : Bytes) → opens m k z ≡ true → Rest (n, m) z (n + length z, k)
+same-rest : (e : Edition) (n m k : ℕ) (z : Bytes) → opens m k z ≡ true → Rest e (n, m) z (n + length z, k)
 unfolding opens
-same-rest n m k [] o = rw (add-zero, ← eqb-true m k o) ends
-same-rest n m k (b ∷ z) o =
+same-rest e n m k [] o = rw (add-zero, ← eqb-true m k o) ends
+same-rest e n m k (b ∷ z) o =
     let g = opens-cases m k b z o in
-    rw (add-suc, ← suc-add) (then (same-block n m b (g .from) (g .upto)) (same-rest (suc n) (max m b) k z (g .rest)))
+    rw (add-suc, ← suc-add) (then (same-block e n m b (g .from) (g .upto)) (same-rest e (suc n) (max m b) k z (g .rest)))
 
 -- x with other models y in front of place r, and v at it
-moved-whole : {up : Bool} (k r m v : ℕ) (x y : Bytes) → r < length x → opens m k (drop (suc r) x) ≡ true → Beside up (setPartitions (suc r) m) (take r x ++ (getD x r 0 ∷ [])) (y ++ (v ∷ []))
-    → Beside up (setPartitions (length x) k) x (y ++ drop r (set x r v))
-moved-whole {up} k r m v x y inside o f =
+moved-whole : {up : Bool} (e : Edition) (k r m v : ℕ) (x y : Bytes) → r < length x → opens m k (drop (suc r) x) ≡ true → Beside up (setPartitions e (suc r) m) (take r x ++ (getD x r 0 ∷ [])) (y ++ (v ∷ []))
+    → Beside up (setPartitions e (length x) k) x (y ++ drop r (set x r v))
+moved-whole {up} e k r m v x y inside o f =
     let z : Bytes = drop (suc r) x in
-    subst₃ (λ n t w. Beside up (setPartitions n k) t w) (rw length-drop (omega arith)) (append-snoc (take r x) (getD x r 0) z ∙ sym (split-at x r 0 inside))
-    (append-snoc y v z ∙ ap (λ w. y ++ w) (sym (drop-set x r v inside))) (tail-beside (same-rest (suc r) m k z o) f)
+    subst₃ (λ n t w. Beside up (setPartitions e n k) t w) (rw length-drop (omega arith)) (append-snoc (take r x) (getD x r 0) z ∙ sym (split-at x r 0 inside))
+    (append-snoc y v z ∙ ap (λ w. y ++ w) (sym (drop-set x r v inside))) (tail-beside (same-rest e (suc r) m k z o) f)
 
-seam : {up : Bool} (n k c d : ℕ) {x y : Bytes} → Beside up (keysInOrder (suc k)) c d → Edge up (setPartitions n (othersIn k c)) x → Edge (not up) (setPartitions n (othersIn k d)) y → Beside up (setPartitions (suc n) (suc k)) (behind k c x) (behind k d y)
+seam : {up : Bool} (e : Edition) (n k c d : ℕ) {x y : Bytes} → Beside up (keysInOrder e (suc k)) c d → Edge up (setPartitions e n (othersIn k c)) x → Edge (not up) (setPartitions e n (othersIn k d)) y → Beside up (setPartitions e (suc n) (suc k)) (behind k c x) (behind k d y)
 unfolding setPartitions
-seam n k c d = beside-seam (others n k) (behind k)
+seam e n k c d = beside-seam (others e n k) (behind k)
 
--- the block of the model in front, as it is read
+-- what the step at place r needs, where the blocks 1 to u are used in front of it, and what it makes
+pub record Turn (e : Edition) (up : Bool) (k r u : ℕ) (x : Bytes) : Type 0 where
+  pub few : u ≤ r
+  pub from : 1 ≤ getD x r 0
+  pub upto : getD x r 0 ≤ suc u
+  pub can : moves (opensLate e up) up r u (getD x r 0) ≡ true
+  pub moved : (v m : ℕ) → Becomes up u (getD x r 0) v m → ((m ≤ r) × (m ≡ 0 → r ≡ 0)) × ((y : Bytes) → Edge (not up) (setPartitions e r m) y → Beside up (setPartitions e (length x) k) x (y ++ drop r (set x r v)))
 
-pub block-read : (x : Bytes) (i : ℕ) → 1 ≤ i → blockBefore x i ≡ getD x (i - 1) 0
-block-read x zero h = absurd (omega arith)
-block-read x (suc i) h = let back : suc i - 1 ≡ i = omega arith in rw back
-
-pub first-passed : (up : Bool) (i : ℕ) (x : Bytes) → i < 1 → movesAt up x i ≡ false
-first-passed up zero x h = first-stays up (getD x 0 0)
-first-passed up (suc i) x h = absurd (omega arith)
-
-some-before : (up : Bool) (i : ℕ) (x : Bytes) → movesAt up x i ≡ true → 1 ≤ i
-some-before up zero x e = absurd (false≢true (sym (first-stays up (getD x 0 0)) ∙ e))
-some-before up (suc i) x e = omega arith
-
--- how many blocks there are up to place r, and the key beside that of the model there
-
-abbrev pub blocksAt : Bytes → ℕ → ℕ
-blocksAt x r = max (getD x (r - 1) 0) (getD x r 0)
-
-abbrev pub keyTo : Bool → Bytes → ℕ → ℕ
-keyTo up x r = keyBeside up (keyAt (getD x (r - 1) 0) (getD x r 0))
-
--- what the step at place r needs, and what it makes
-pub record Turn (up : Bool) (k r : ℕ) (x : Bytes) : Type 0 where
-  pub behind : 1 ≤ r
-  pub some : 1 ≤ blocksAt x r
-  pub most : blocksAt x r ≤ length x
-  pub small : keyAt (getD x (r - 1) 0) (getD x r 0) ≤ blocksAt x r
-  pub goes : Goes up r (blocksAt x r - 1) (keyAt (getD x (r - 1) 0) (getD x r 0))
-  pub moved : (y : Bytes) → Edge (not up) (setPartitions r (othersIn (blocksAt x r - 1) (keyTo up x r))) y → Beside up (setPartitions (length x) k) x (y ++ drop r (set x r (blockOf (blocksAt x r - 1) (keyTo up x r))))
-
-pub turn : {up : Bool} (k r : ℕ) (x : Bytes) → opens 0 k x ≡ true → Reached up x r → r < length x → Turn up k r x
-turn {up} k r x o s inside =
-    let u : ℕ = getD x (r - 1) 0 in
+pub turn : {up : Bool} (e : Edition) (k r u : ℕ) (x : Bytes) → opens 0 k x ≡ true → FirstMove (opensLate e up) up x r u → Turn e up k r u x
+turn {up} e k r u x o s =
+    let inside = s .inside in
     let b : ℕ = getD x r 0 in
     let j : ℕ = max u b - 1 in
-    let h = some-before up r x (s .found inside) in
-    let f = subst (λ v. Front up k r v x) (block-read x r h) (front up k r x o (s .within) (s .passed)) in
+    let f = subst (λ v. EndInFront e up k r v x) (sym (s .used)) (front e up k r x o (omega arith) (s .passed)) in
     let g = opened k r u x inside f in
-    let few = edge-fits r u (f .end) .0 in
+    let few = edge-fits e r u (f .end) in
     let all : suc j ≡ max u b = omega (arith, g .from) in
     let t = key-found u j b (g .from) (g .upto) (sym all) in
-    let to = goes up r u b j few (g .from) (g .upto) (sym all) (subst (λ v. moves up r v b ≡ true) (block-read x r h) (s .found inside)) in
+    let can : moves (opensLate e up) up r u b ≡ true = subst (λ v. moves (opensLate e up) up r v b ≡ true) (sym (s .used)) (s .found) in
+    let to : Goes e up r j (max u b) (keyAt u b) = subst (λ l. Goes e up r j l (keyAt u b)) all (goes e up r u b j (few .0) (g .from) (g .upto) (sym all) can) in
     record {
-      behind = h;
-      some = omega (arith, g .from);
-      most = omega (arith, g .upto);
-      small = omega (arith, t .small);
-      goes = to;
-      moved = λ y z. moved-whole k r (max u b) (blockOf j (keyTo up x r)) x y inside (g .rest)
-          (subst₂ (λ m v. Beside up (setPartitions (suc r) m) (take r x ++ (v ∷ [])) (y ++ (blockOf j (keyTo up x r) ∷ []))) all (sym (t .block)) (seam r j (keyAt u b) (keyTo up x r) (to .beside) (subst (λ m. Edge up (setPartitions r m) (take r x)) (t .others) (f .end)) z));
+      few = few .0;
+      from = g .from;
+      upto = g .upto;
+      can = can;
+      moved = λ v m a. (
+        rw (a .1) (to .fits),
+        λ y z. moved-whole e k r (max u b) v x y inside (g .rest)
+            (subst₃ (λ l w d. Beside up (setPartitions e (suc r) l) (take r x ++ (w ∷ [])) (y ++ (d ∷ []))) all (sym (t .block)) (sym (a .0))
+            (seam e r j (keyAt u b) (keyTo up u b) (rw all (to .beside)) (subst (λ l. Edge up (setPartitions e r l) (take r x)) (t .others) (f .end)) (subst (λ l. Edge (not up) (setPartitions e r l) y) (a .1) z))),
+      );
     }

@@ -1,4 +1,5 @@
--- Kind 4: what a set partition is, which of two comes first, and the listing of them all.
+-- Kind 4: what a set partition is, which of two comes first by either edition, and the listing of them all.
+pub mod KeyOrder
 pub mod Objects
 pub mod Meaning
 pub mod Listing

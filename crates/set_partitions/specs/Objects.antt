@@ -7,7 +7,8 @@ use Prim.Native.Nat.{ℕ, suc, max}
 use lib.Dec.{leb, ltb, eqb}
 use lib.ListN.{length}
 use Rattle.listings.specs.Bytes.{Bytes}
-use Rattle.listings.specs.Orders.{colexBefore}
+use Rattle.listings.specs.Orders.{colexBy}
+use Rattle.set_partitions.specs.KeyOrder.{Edition, keyBefore}
 
 -- with the blocks 1 to m used so far, the next model is in one of them or is the smallest of block m + 1; at the end all k are used (SCOPE 1.c;
 -- `means`, `meant`)
@@ -26,6 +27,6 @@ unfoldable pub keys : ℕ → Bytes → Bytes
 keys m [] = []
 keys m (b ∷ x) = cond (ltb m b) 0 b ∷ keys (max m b) x
 
--- "At the largest i whose keys differ, the smaller key" (SCOPE 2.4)
-unfoldable pub setPartitionBefore : Bytes → Bytes → Bool
-setPartitionBefore x y = colexBefore (keys 0 x) (keys 0 y)
+-- "At the largest i whose keys differ" (SCOPE 2.4), the key that the edition puts first
+unfoldable pub setPartitionBefore : Edition → Bytes → Bytes → Bool
+setPartitionBefore e x y = colexBy (keyBefore e) (keys 0 x) (keys 0 y)

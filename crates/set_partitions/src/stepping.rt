@@ -1,91 +1,108 @@
-// A step to the next or the previous partition: one function for both directions.
+// A step to the next or the previous partition: one function for both directions, in both editions.
 ghost use mathlib.Core.Path.{_≡_};
-ghost use mathlib.Core.Bool.{true, false, not};
-ghost use Prim.Native.Nat.{_≤_, max};
-ghost use lib.ListN.{length};
+ghost use mathlib.Core.Bool.{true, false, cond, not, _&&_};
+ghost use Prim.Native.Nat.{_+_, _-_, _≤_, _<_, max};
+ghost use lib.Dec.{ltb, eqb};
+ghost use lib.ListN.{length, getD};
 ghost use Rattle.basics.specs.Limits.{places};
 ghost use Rattle.listings.specs.Calls.{Said, act};
-ghost use Rattle.listings.specs.Directions.{stepCall, Edge};
+ghost use Rattle.listings.specs.Directions.{stepCall};
 ghost use Rattle.listings.specs.Steps.{stepAs};
+ghost use Rattle.set_partitions.specs.KeyOrder.{editionOf};
 ghost use Rattle.set_partitions.specs.Objects.{isSetPartition, setPartitionBefore};
-ghost use Rattle.set_partitions.specs.Listing.{setPartitions};
-ghost use Rattle.set_partitions.specs.inner.Moves.{moves, keyBeside, Reached};
-use crate::last_key::block_of;
-use crate::last_key::others_in;
-use crate::search::key_of;
+ghost use Rattle.set_partitions.specs.Listing.{othersIn, blockOf, setPartitions};
+ghost use Rattle.set_partitions.specs.inner.Moves.{restBlock, keyTo, Searched};
+use crate::ends::opens_late;
+use crate::ends::rest_block;
+use crate::ends::write_end;
 use listings::Step;
 
-// Can the key of a model in block b go up, or, going back, down, behind as many models as its place says and the last of them in block `used`?
-fn can_move(up: bool, place: usize, used: u8, b: u8) -> bool
-    ensures { λ r. ⌜ r ≡ moves up place used b ⌝ }
-{
-    if up {
-        return b < used || (used < b && (used as usize) < place);
-    }
-    1 < used && b <= used
+// Where a key can move: nowhere, or at a place, behind models in the blocks 1 to a number.
+enum Spot {
+    Nowhere,
+    At(usize, u8),
 }
 
-// The first place whose key can move, or the length. In front of it stands the latest partition, 1, .., m, m, .., m: a block below m can go up, and
-// a new block can become block 1, where the models in front are more than m. Going back it is the earliest, 1, .., 1, 2, .., m, with m above 1.
-fn block_to_move(up: bool, object: &[u8]) -> usize
-    ensures { λ r. ⌜ Reached up (now (object .entry)) r ⌝ }
+// The block of a model whose key has moved, and how many blocks those in front of it are in.
+struct Moved(pub u8, pub u8);
+
+// One of two numbers: where nobody can foresee which, both are worked out and the processor has nothing to guess.
+fn pick(first: bool, a: u8, b: u8) -> u8
+    ensures { λ r. ⌜ r ≡ cond first a b ⌝ }
 {
+    if first { a } else { b }
+}
+
+// Can a model leave the new block that it opens, behind as many models as its place says, in the blocks 1 to `used`?
+fn leaves_new(late: bool, place: usize, used: u8) -> bool
+    ensures { λ r. ⌜ r ≡ (not late && ltb used place) ⌝ }
+{
+    !late && (used as usize) < place
+}
+
+// Can it leave block b of theirs?
+fn leaves_block(late: bool, up: bool, used: u8, b: u8) -> bool
+    ensures { λ r. ⌜ r ≡ cond late (ltb 1 used) (not (eqb b (restBlock up used))) ⌝ }
+{
+    if late {
+        return 1 < used;
+    }
+    b != rest_block(up, used)
+}
+
+// The first place whose key can move. In front of it stands the latest partition, or, going back, the earliest. There the byte before need not be the
+// highest block (1, 2, .., m, 1, .., 1), so the search keeps it.
+fn block_to_move(late: bool, up: bool, object: &[u8]) -> Spot
+    requires { ⌜ (0 < length (now object) → getD (now object) 0 0 ≡ 1) ⌝ }
+    ensures { λ r. ⌜ Searched late up (now (object .entry)) r ⌝ }
+{
+    let mut used: u8 = 1;
     let mut i = 1;
     while i < object.len() {
-        if can_move(up, i, object[i - 1], object[i]) {
-            return i;
+        let b = object[i];
+        if used < b {
+            if leaves_new(late, i, used) {
+                return Spot::At(i, used);
+            }
+            used = b;
+        } else {
+            if leaves_block(late, up, used, b) {
+                return Spot::At(i, used);
+            }
         }
         i += 1;
     }
-    object.len()
+    Spot::Nowhere
 }
 
-// How many blocks there are with that of one model more.
-fn blocks_with(used: u8, b: u8) -> u64
-    ensures { λ r. ⌜ r ≡ max used b ⌝ }
+// A key that moves. Where blocks open late: from the last block to go to, to a new one, else to the block beside it. Else: from a new block to block 1, or,
+// going back, to the last; else to the block beside it.
+fn move_key(late: bool, up: bool, used: u8, b: u8) -> Moved
+    requires { ⌜ (1 ≤ b) × ((b ≤ used + 1) × (used ≤ places)) ⌝ }
+    requires { ⌜ (late ≡ true → b ≤ used) × (late ≡ false → b ≤ used → b ≡ restBlock up used → ⊥) ⌝ }
+    ensures { λ r. ⌜ (r .0 ≡ blockOf (max used b - 1) (keyTo up used b)) × (r .1 ≡ othersIn (max used b - 1) (keyTo up used b)) ⌝ }
 {
-    if used < b { b as u64 } else { used as u64 }
-}
-
-// The key that comes next, or, going back, before.
-fn key_beside(up: bool, key: u64) -> u64
-    requires { ⌜ (key ≤ places) × (up ≡ false → 1 ≤ key) ⌝ }
-    ensures { λ r. ⌜ r ≡ keyBeside up key ⌝ }
-{
-    if up {
-        return key + 1;
+    let beside = pick(up, b + 1, b - 1);
+    if late {
+        let opens = b == rest_block(up, used);
+        return Moved(pick(opens, used, beside), pick(opens, used - 1, used));
     }
-    key - 1
-}
-
-// The earliest partition of the models in front, or, going back, the latest.
-fn restart(up: bool, k: u64, part: &mut [u8])
-    requires { ⌜ length (now part) ≤ places ⌝ }
-    requires { ⌜ (k ≤ length (now part)) × (k ≡ 0 → length (now part) ≡ 0) ⌝ }
-    ensures { λ _. ⌜ Edge (not up) (setPartitions (length (now (part .entry))) k) (now (part .exit)) ⌝ }
-{
-    if up {
-        crate::first(k, part);
-        return;
-    }
-    crate::last(k, part);
+    let new = used < b;
+    Moved(pick(new, rest_block(!up, b), beside), pick(new, b, used))
 }
 
 // The first model whose key can move does, and the models in front of it start over.
-pub fn step(up: bool, k: u64, object: &mut [u8]) -> Step
+pub fn step(edition: u64, up: bool, k: u64, object: &mut [u8]) -> Step
     requires { ⌜ length (now object) ≤ places ⌝ }
     requires { ⌜ isSetPartition (length (now object)) k (now object) ≡ true ⌝ }
-    ensures { λ r. ⌜ _≡_ {A = Said} (stepAs r, now (object .exit)) (act (stepCall up) setPartitionBefore (setPartitions (length (now (object .entry))) k) (now (object .entry))) ⌝ }
+    ensures { λ r. ⌜ _≡_ {A = Said} (stepAs r, now (object .exit)) (act (stepCall up) (setPartitionBefore (editionOf edition)) (setPartitions (editionOf edition) (length (now (object .entry))) k) (now (object .entry))) ⌝ }
 {
-    let i = block_to_move(up, object);
-    if i == object.len() {
+    let late = opens_late(edition, up);
+    let Spot::At(i, used) = block_to_move(late, up, object) else {
         return Step::End;
-    }
-    let used = object[i - 1];
-    let b = object[i];
-    let blocks = blocks_with(used, b);
-    let key = key_beside(up, key_of(used, b) as u64);
-    object[i] = block_of(blocks, key);
-    restart(up, others_in(blocks, key), &mut object[..i]);
+    };
+    let moved = move_key(late, up, used, object[i]);
+    object[i] = moved.0;
+    write_end(edition, !up, moved.1 as u64, &mut object[..i]);
     Step::Moved
 }

@@ -7,7 +7,7 @@ use Rattle.listings.specs.Bytes.{Bytes}
 use Rattle.listings.specs.Calls.{firstNo}
 use Rattle.subsets.specs.Listing.{subsets}
 use Rattle.families.specs.Table.{noCounts}
-use Rattle.families.specs.Families.{row, isKind, inTable, floorFits, listsFit, askedOfAll, allYes, allowed, listing, countOf}
+use Rattle.families.specs.Families.{row, isKind, inTable, floorFits, editionFits, listsFit, askedOfAll, allYes, allowed, listing, countOf}
 use Rattle.families.specs.Questions.{asked, isIn, put, opening, closingFor, refusal}
 use Rattle.columns.specs.Columns.{column, justified}
 use Rattle.columns.specs.Fields.{digits, field}
@@ -31,5 +31,5 @@ workedText =
     ++ ((32 ∷ 32 ∷ 32 ∷ 32 ∷ 32 ∷ 32 ∷ 32 ∷ 32 ∷ 32 ∷ 32 ∷ 32 ∷ 32 ∷ 32 ∷ 32 ∷ 32 ∷ 32 ∷ 32 ∷ 69 ∷ 78 ∷ 68 ∷ 10 ∷ []))))))))
 
 pub worked : output workedSlip ≡ workedText
-unfolding refusal opening closingFor firstNo put asked isIn isKind inTable floorFits listsFit askedOfAll allYes allowed row noCounts listing countOf flatMap range subsets column justified digits field consField fields line familyOf countsOn secondLine handedOn withCounts slipWith slipFrom slipOf familyColumns firstLine objectLine objectLines lastLine body listedText said familyText textOf output
+unfolding refusal opening closingFor firstNo put asked isIn isKind inTable floorFits editionFits listsFit askedOfAll allYes allowed row noCounts listing countOf flatMap range subsets column justified digits field consField fields line familyOf countsOn secondLine handedOn withCounts slipWith slipFrom slipOf familyColumns firstLine objectLine objectLines lastLine body listedText said familyText textOf output
 worked = refl

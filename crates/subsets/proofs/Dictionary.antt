@@ -4,9 +4,9 @@ use mathlib.Core.Path.{_≡_, refl}
 use mathlib.Core.Bool.{true}
 use mathlib.Core.List.{[], _∷_}
 use Rattle.listings.specs.Bytes.{same}
-use Rattle.listings.specs.Orders.{lexBefore, colexBefore}
+use Rattle.listings.specs.Orders.{lexBefore, colexBy}
 use Rattle.subsets.specs.Objects.{subsetBefore}
 
 pub not-by-dictionary : (lexBefore (1 ∷ 4 ∷ []) (2 ∷ 3 ∷ []) ≡ true) × (subsetBefore (2 ∷ 3 ∷ []) (1 ∷ 4 ∷ []) ≡ true)
-unfolding lexBefore colexBefore same
+unfolding lexBefore colexBy same
 not-by-dictionary = (refl, refl)

@@ -1,6 +1,6 @@
 // Runs the cases of the files that its arguments name. A case is a line, with one blank between any two words:
 //
-//     LABEL: LETTERS RANK / KIND N K FLOOR / OBJECT / COUNTS
+//     LABEL: LETTERS RANK / KIND N K FLOOR EDITION / OBJECT / COUNTS
 //
 // Numbers missing at the end of a section are 0, and sections missing at the end of the line are empty. For each letter it prints a line with
 // the label and what the letter asks of that family with those counts, that rank and that object:
@@ -17,12 +17,13 @@
 // `listings`: strings filtered by the table's words and sorted by a comparison written from "Which of two objects comes first". `refusals`
 // and `large_families` (at both edges of 2^64 and at 80 places): objects by rank, counted place by place as Loehr does, a step being the
 // rank one up or down; so there the order rests on the same recursion as our listings. `floors`: kind 5 with floors, small ones the first way,
-// large ones the second, and floors that are refused, on every kind.
+// large ones the second, and floors that are refused, on every kind. `editions`: the same of kind 4 in both editions, every family of up to 8
+// models the first way.
 //
 // `published` has the worked examples of the sources that concern these orders, beyond the twelve proof cases, with the number of each
-// example, typed from the sources: Loehr's chapter (000) 5.20 to 5.41, and Loehr 2019 (004) 3.1 and 3.3. Letters a, b, .. are written
-// 1, 2, ..; N is 1 and E is 0. In 5.38 the source prints bdcacbc and then works with the tails accb and ccb, that is with bdcaccb. A list
-// is FIRST, and NEXT of each object that the source lists.
+// example, typed from the sources: Loehr's chapter (000) 5.20 to 5.41, Loehr 2019 (004) 3.1 and 3.3, and Wilf (001) 4 (2), whose order is
+// edition 2 and whose numbers are worked out by its rule. Letters a, b, .. are written 1, 2, ..; N is 1 and E is 0. In 5.38 the source prints
+// bdcacbc and then works with the tails accb and ccb, that is with bdcaccb. A list is FIRST, and NEXT of each object that the source lists.
 ghost use Prim.Native.Nat.{_≤_};
 ghost use lib.ListN.{length};
 
@@ -128,8 +129,10 @@ fn family(line: &[u8], start: usize) -> Family {
     let n = decimal(line, kind.end);
     let k = decimal(line, n.end);
     let floor = decimal(line, k.end);
+    let edition = decimal(line, floor.end);
     Family {
         floor: floor.value,
+        edition: edition.value,
         ..families::plain_family(kind.value, n.value, k.value)
     }
 }

@@ -1,6 +1,6 @@
 // Jumps the cases of the files that its arguments name. A case is a line, with one blank between any two words:
 //
-//     LABEL: KIND N K FLOOR / FROM TO / OBJECT / COUNTS
+//     LABEL: KIND N K FLOOR EDITION / FROM TO / OBJECT / COUNTS
 //
 // For every distance from FROM to TO, signed numbers of 64 bits, it jumps from that object, with those counts lent. It prints a line a case:
 // the label, and of each jump
@@ -12,7 +12,7 @@
 // The cases and the expected text, `stdout`, that of the files in turn, are written by tests/expected/jumps.py, on the listings.
 // `small_families`: every kind, from each object to each other and beyond both ends. `both_ends`: the smallest and the largest distance.
 // `large_families`: up to 2^64 - 1 objects and the longest there are. `refusals`: each question missed, and others behind it. `floors`: kind 5
-// with floors, and floors that are refused, on every kind.
+// with floors, and floors that are refused, on every kind. `editions`: the same of kind 4 and its editions.
 use families::Family;
 use families::Lists;
 use libc::STDOUT_FILENO;
@@ -126,8 +126,10 @@ fn family(line: &[u8], start: usize) -> Family {
     let n = decimal(line, kind.end);
     let k = decimal(line, n.end);
     let floor = decimal(line, k.end);
+    let edition = decimal(line, floor.end);
     Family {
         floor: floor.value,
+        edition: edition.value,
         ..families::plain_family(kind.value, n.value, k.value)
     }
 }

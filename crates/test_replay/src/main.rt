@@ -1,6 +1,6 @@
 // Replays the cases of the files that its arguments name. A case is a line, with one blank between any two words:
 //
-//     LABEL: CALLS / RANKS / KIND N K FLOOR / OBJECT / COUNTS / ANSWERS TRAIL
+//     LABEL: CALLS / RANKS / KIND N K FLOOR EDITION / OBJECT / COUNTS / ANSWERS TRAIL
 //
 // Calls are written by their codes, a rank stands beside each, and last come the lengths of the two buffers that are only written. It prints
 // a line a case: the label, whether the calls ran, the codes of the answers, the bytes after the calls, one call's behind the other's, and
@@ -10,7 +10,7 @@
 // listing that is fed no answer. `small_families`: every kind, to END and beyond, there and back, through the ranks, from bytes that are no
 // object, and calls in no order. `refusals`: lists of calls in which each question is missed. `large_families`: at both edges of 2^64 and at
 // 80 places. `misfits`: codes that are no call's, and buffers of another length. `floors`: kind 5 with floors, and floors that are refused, on
-// every kind.
+// every kind. `editions`: the same of kind 4 and its editions.
 ghost use Prim.Native.Nat.{_≤_};
 ghost use lib.ListN.{length};
 use basics::LONGEST_OBJECT;
@@ -94,8 +94,10 @@ fn family(line: &[u8], start: usize) -> Family {
     let n = decimal(line, kind.end);
     let k = decimal(line, n.end);
     let floor = decimal(line, k.end);
+    let edition = decimal(line, floor.end);
     Family {
         floor: floor.value,
+        edition: edition.value,
         ..families::plain_family(kind.value, n.value, k.value)
     }
 }

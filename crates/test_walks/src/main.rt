@@ -1,6 +1,6 @@
 // Walks the cases of the files that its arguments name. A case is a line, with one blank between any two words:
 //
-//     LABEL: KIND N K FLOOR / LEN NUMBER / BYTES; COUNTS / ROOM STEPS; COUNTS / ROOM STEPS ..
+//     LABEL: KIND N K FLOOR EDITION / LEN NUMBER / BYTES; COUNTS / ROOM STEPS; COUNTS / ROOM STEPS ..
 //
 // A walk is made up of that length, that number and those bytes, with 0 behind them in its array; or it starts at the bytes, with the counts
 // that stand first, where LEN and NUMBER are missing. Then come its legs: the counts handed in, room for so many answers, and the steps, 1
@@ -17,6 +17,7 @@
 // `small_families`: every kind, from each object to END and beyond, there and back, zigzag, in no order. `made_up`: numbers, lengths and
 // bytes that no start gives. `refusals`: each question missed, and others behind it. `lists_change`: other counts between the steps.
 // `large_families`: at both edges of 2^64 and at 80 places. `floors`: kind 5 with floors, and floors that are refused, on every kind.
+// `editions`: the same of kind 4 and its editions.
 ghost use mathlib.Core.Path.{_≡_};
 ghost use Prim.Native.Nat.{_≤_};
 ghost use lib.ListN.{length, take};
@@ -61,7 +62,10 @@ fn ranked(answer: Ranked) {
 fn summed(walk: Walk) {
     let f = walk.family;
     let array = walk.bytes;
-    let family = mixed(mixed(mixed(mixed(0, f.kind), f.n), f.k), f.floor);
+    let family = mixed(
+        mixed(mixed(mixed(mixed(0, f.kind), f.n), f.k), f.floor),
+        f.edition,
+    );
     text(b" digest");
     number(digest(mixed(mixed(family, walk.len), walk.number), &array));
 }
@@ -184,8 +188,10 @@ fn family(line: &[u8], start: usize) -> Family {
     let n = decimal(line, kind.end);
     let k = decimal(line, n.end);
     let floor = decimal(line, k.end);
+    let edition = decimal(line, floor.end);
     Family {
         floor: floor.value,
+        edition: edition.value,
         ..families::plain_family(kind.value, n.value, k.value)
     }
 }

@@ -2,7 +2,7 @@
 
 use std::os::raw::c_uint;
 
-/// A family as it crosses, by value. Make one by `of`: the floor is then 1, and later fields have their defaults. With another floor:
+/// A family as it crosses, by value. Make one by `of`: floor and edition are then 1, and later fields have their defaults. With another floor:
 /// `Family { floor: 2, ..Family::of(5, 9, 3) }`.
 #[repr(C)]
 #[derive(Clone, Copy, Debug)]
@@ -11,11 +11,12 @@ pub struct Family {
     pub n: u64,
     pub k: u64,
     pub floor: u64,
+    pub edition: u64,
 }
 
 impl Family {
     pub fn of(kind: u64, n: u64, k: u64) -> Self {
-        Family { kind, n, k, floor: 1 }
+        Family { kind, n, k, floor: 1, edition: 1 }
     }
 }
 
@@ -65,6 +66,7 @@ pub const END: Code = 100;
 pub const REFUSED_KIND: Code = 1;
 pub const REFUSED_BOUNDS: Code = 2;
 pub const REFUSED_FLOOR: Code = 10;
+pub const REFUSED_EDITION: Code = 11;
 pub const REFUSED_LETTER_COUNTS: Code = 3;
 pub const REFUSED_NO_OBJECTS: Code = 4;
 pub const REFUSED_OVERFLOW: Code = 5;

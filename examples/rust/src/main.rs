@@ -1,6 +1,6 @@
-//! A number for an arrangement, the arrangement for a number, one step on and back, a walk, jumps, a floor. Build and run: examples/rust/run
+//! A number for an arrangement, the arrangement for a number, one step on and back, a walk, jumps, a floor, an edition. Build and run: examples/rust/run
 
-use arrangements_example::{Arrangements, Family, DONE, END, REFUSED_FLOOR, REFUSED_RANK};
+use arrangements_example::{Arrangements, Family, DONE, END, REFUSED_EDITION, REFUSED_FLOOR, REFUSED_RANK};
 
 /// Jumps: 100 places back, as many on, and off the listing, which is END.
 fn jumps(plans: &Arrangements, plan: &mut [u8]) {
@@ -27,6 +27,20 @@ fn floors() {
     let orders = Arrangements { family: Family { floor: 2, ..Family::of(3, 3, 0) }, counts: vec![] };
     assert_eq!(orders.first(&mut parts), REFUSED_FLOOR);
     println!("a permutation with floor 2 is refused");
+}
+
+/// All set partitions of 4 models into 2 blocks as edition 2 lists them, by number; and no other kind has an edition but 1.
+fn editions() {
+    let partitions = Arrangements { family: Family { edition: 2, ..Family::of(4, 4, 2) }, counts: vec![] };
+    let (mut all, mut blocks) = (0, [0u8; 4]);
+    assert_eq!(partitions.count(&mut all), DONE);
+    for number in 0..all {
+        assert_eq!(partitions.unrank(number, &mut blocks), DONE);
+        println!("4 in 2 blocks, edition 2  {blocks:?}");
+    }
+    let orders = Arrangements { family: Family { edition: 2, ..Family::of(3, 4, 0) }, counts: vec![] };
+    assert_eq!(orders.first(&mut blocks), REFUSED_EDITION);
+    println!("a permutation in edition 2 is refused");
 }
 
 fn main() {
@@ -56,6 +70,7 @@ fn main() {
 
     jumps(&plans, &mut plan);
     floors();
+    editions();
 
     assert_eq!(plans.last(&mut plan), DONE);
     let last = plan;

@@ -44,9 +44,9 @@ fn sizes(r: &mut Random) -> Kind {
 }
 
 /// Families at the edges of 2^64 and of 80 places, and integer partitions with the largest floors.
-const EDGES: [(u64, u64, u64); 20] = [
-    (1, 67, 33), (1, 68, 34), (1, 80, 21), (1, 80, 22), (1, 80, 40), (3, 20, 0), (3, 21, 0), (4, 26, 9), (4, 27, 8), (4, 65, 2), (4, 66, 2), (4, 80, 40),
-    (5, 80, 18), (5, 80, 20), (5, 80, 2), (5, 80, 1), (5, 0, 0), (6, 36, 0), (6, 37, 0), (6, 40, 0),
+const EDGES: [(u64, u64, u64); 23] = [
+    (1, 67, 33), (1, 68, 34), (1, 80, 21), (1, 80, 22), (1, 80, 40), (3, 20, 0), (3, 21, 0), (4, 26, 9), (4, 27, 8), (4, 65, 2), (4, 66, 2), (4, 42, 3),
+    (4, 49, 41), (4, 80, 75), (4, 80, 40), (5, 80, 18), (5, 80, 20), (5, 80, 2), (5, 80, 1), (5, 0, 0), (6, 36, 0), (6, 37, 0), (6, 40, 0),
 ];
 
 /// A floor. For kind 5 one round question 10's edges or round n / k, beyond which there are no objects, one that leaves objects, a small one, or 1; for
@@ -66,12 +66,23 @@ fn floor(r: &mut Random, f: &Kind) -> u64 {
     }
 }
 
+/// An edition. For kind 4 mostly 1 or 2, for the other kinds nearly always 1; else one round question 11's edges.
+fn edition(r: &mut Random, f: &Kind) -> u64 {
+    let edge = [0, 1, 2, 3, u64::MAX, r.next()][r.below(6) as usize];
+    match r.below(if f.kind == 4 { 12 } else { 32 }) {
+        0 => edge,
+        1..=6 if f.kind == 4 => 2,
+        _ => 1,
+    }
+}
+
 /// A family, mostly one that the questions let pass; some at the edges.
 fn family(r: &mut Random) -> Kind {
     let edge = r.below(6) == 0;
-    let (kind, n, k) = EDGES[r.below(20) as usize];
+    let (kind, n, k) = EDGES[r.below(EDGES.len() as u64) as usize];
     let mut f = if edge { Kind::of(kind, n, k, vec![]) } else { sizes(r) };
     f.floor = floor(r, &f);
+    f.edition = edition(r, &f);
     if edge {
         return f;
     }
@@ -148,7 +159,8 @@ fn buffer(r: &mut Random, t: &Tables, f: &Kind, usable: bool) -> Vec<u8> {
 
 /// A call in words; its number is a rank, what a walk keeps, or how far a jump goes.
 fn describe(f: &Kind, call: &str, number: i128, x: &[u8]) -> String {
-    format!("{call} on kind {} n {} k {} floor {} counts {:?} number {number} bytes {x:?}", f.kind, f.n, f.k, f.floor, f.counts)
+    let (kind, n, k, floor, edition, counts) = (f.kind, f.n, f.k, f.floor, f.edition, &f.counts);
+    format!("{call} on kind {kind} n {n} k {k} floor {floor} edition {edition} counts {counts:?} number {number} bytes {x:?}")
 }
 
 /// Is y just after x? y is a larger object, and its rank is one more; in a family whose ranks the reference cannot tell, among the objects that
@@ -162,7 +174,7 @@ fn is_next(t: &Tables, f: &Kind, x: &[u8], y: &[u8]) -> bool {
 }
 
 fn library(f: &Kind) -> Arrangements {
-    Arrangements { family: Family { floor: f.floor, ..Family::of(f.kind, f.n, f.k) }, counts: f.counts.clone() }
+    Arrangements { family: Family { floor: f.floor, edition: f.edition, ..Family::of(f.kind, f.n, f.k) }, counts: f.counts.clone() }
 }
 
 /// Has the family objects, and so a count that the reference can be asked for?

@@ -73,13 +73,14 @@ pub struct Kind {
     pub n: u64,
     pub k: u64,
     pub floor: u64,
+    pub edition: u64,
     pub counts: Vec<u8>,
 }
 
 impl Kind {
     /// A family of which no more is said than this.
     pub fn of(kind: u64, n: u64, k: u64, counts: Vec<u8>) -> Self {
-        Kind { kind, n, k, floor: 1, counts }
+        Kind { kind, n, k, floor: 1, edition: 1, counts }
     }
 
     pub fn letters(&self) -> Vec<usize> {
@@ -98,7 +99,7 @@ impl Kind {
                     1 => (self.n, end as u64),
                     _ => (end as u64, most),
                 };
-                (Kind::of(self.kind, n, k, vec![]), x[..end].to_vec(), y[..end].to_vec())
+                (Kind { n, k, ..self.clone() }, x[..end].to_vec(), y[..end].to_vec())
             }
             2 | 3 => {
                 let start = (0..x.len()).find(|&i| x[i] != y[i]).unwrap_or(x.len());
@@ -110,7 +111,7 @@ impl Kind {
         }
     }
 
-    /// The first of questions 1, 2, 10 and 3 that refuses, or 0.
+    /// The first of questions 1, 2, 10, 11 and 3 that refuses, or 0.
     fn table(&self) -> u32 {
         let (n, k) = (self.n, self.k);
         let sum: u64 = self.counts.iter().map(|&c| c as u64).sum();
@@ -121,6 +122,8 @@ impl Kind {
             6 if n > 40 || k != 0 => 2,
             5 if self.floor < 1 || self.floor > 80 => 10,
             1..=4 | 6 if self.floor != 1 => 10,
+            4 if self.edition < 1 || self.edition > 2 => 11,
+            1 | 2 | 3 | 5 | 6 if self.edition != 1 => 11,
             2 if self.counts.len() as u64 != n || sum > 80 => 3,
             1 | 3..=6 if !self.counts.is_empty() => 3,
             _ => 0,
@@ -207,20 +210,16 @@ impl Kind {
             }
             4 => {
                 while n > 0 {
-                    let alone = if k == 0 { 0 } else { t.blocks[n - 1][k - 1] };
-                    if r < alone {
-                        x.insert(0, k as u8);
-                        k -= 1;
-                    } else {
-                        r -= alone;
-                        let mut b = 1;
-                        while r >= t.blocks[n - 1][k] {
-                            r -= t.blocks[n - 1][k];
-                            b += 1;
-                        }
-                        x.insert(0, b);
-                    }
                     n -= 1;
+                    for key in self.keys_in_order(k) {
+                        let here = t.blocks[n][if key == 0 { k - 1 } else { k }];
+                        if r < here {
+                            x.insert(0, if key == 0 { k } else { key } as u8);
+                            k -= (key == 0) as usize;
+                            break;
+                        }
+                        r -= here;
+                    }
                 }
             }
             5 => {
@@ -261,12 +260,11 @@ impl Kind {
             }
             4 => {
                 let (mut r, mut k) = (0, self.k as usize);
-                for i in (0..x.len()).rev() {
-                    if x[..i].contains(&x[i]) {
-                        r = add(r, add(t.blocks[i][k - 1], mul(x[i] as u128 - 1, t.blocks[i][k])));
-                    } else {
-                        k -= 1;
+                for (i, own) in Self::keys(x).into_iter().enumerate().rev() {
+                    for key in self.keys_in_order(k).into_iter().take_while(|&key| key != own as usize) {
+                        r = add(r, t.blocks[i][if key == 0 { k - 1 } else { k }]);
                     }
+                    k -= (own == 0) as usize;
                 }
                 r
             }
@@ -289,12 +287,28 @@ impl Kind {
         x.iter().enumerate().map(|(i, b)| if x[..i].contains(b) { *b } else { 0 }).collect()
     }
 
+    /// The keys that the last of some models in k blocks can have, the earliest first.
+    fn keys_in_order(&self, k: usize) -> Vec<usize> {
+        let mut keys: Vec<usize> = (0..=k).collect();
+        keys.rotate_left((self.edition == 2) as usize);
+        keys
+    }
+
+    /// Of two keys, the one that comes first: in edition 2 "the key of a model that is smallest in its block counts as higher than every block number".
+    fn key_order(&self, a: u8, b: u8) -> Ordering {
+        let lifted = |key| (self.edition == 2 && key == 0, key);
+        lifted(a).cmp(&lifted(b))
+    }
+
     /// "Which of two objects comes first".
     pub fn order(&self, x: &[u8], y: &[u8]) -> Ordering {
         match self.kind {
             1 | 5 => x.iter().rev().cmp(y.iter().rev()),
             2 | 3 => x.cmp(y),
-            4 => Self::keys(x).iter().rev().cmp(Self::keys(y).iter().rev()),
+            4 => {
+                let (a, b) = (Self::keys(x), Self::keys(y));
+                (0..a.len()).rev().map(|i| self.key_order(a[i], b[i])).find(|o| o.is_ne()).unwrap_or(Ordering::Equal)
+            }
             _ => dyck_order(x, y),
         }
     }
