@@ -11,7 +11,8 @@ times, counts = {}, {}
 for name in ("times", "interpreted", "systems"):
     for line in open(f"{out}/{name}"):
         family, pool, call, who, ns = line.rstrip("\n").split("|")
-        times[family, pool, call, who] = float(ns)
+        # each is measured at several places: the best counts
+        times[family, pool, call, who] = min(float(ns), times.get((family, pool, call, who), float("inf")))
 for path in glob.glob(f"{out}/callgrind.*"):
     text = open(path).read()
     label = re.search(r"^desc: Trigger: Client Request: (.*)$", text, re.M)
@@ -198,12 +199,12 @@ def targets():
 say("# Benchmarks", "", f"Written by `benchmarks/run` on {datetime.date.today()}: {shell('lscpu | sed -n s/^Model.name:[[:space:]]*//p')}, {shell('gcc --version | head -1')}, -O2.", "")
 say("Method. `benchmarks/measure.c` calls the library (`rt staticlib arrangements`) and `benchmarks/plain.c`, a plain implementation in C that puts the",
     "same questions and reads tables built beforehand, on the same 256 random objects and ranks of each family, in one run; the two must agree on",
-    "every call first. A time is the best of nine rounds of some 4 ms each in turn, in nanoseconds a call, with the copy of the object that a step is\nmade on.",
+    "every call first. A time is the best of nine rounds of some 4 ms each in turn, at each of four places of the library in a line of 64 bytes (elsewhere in",
+    "it the same code takes up to a quarter more), in nanoseconds a call, with the copy of the object that a step is made on.",
     "Instructions are callgrind's for one pass over the 256, divided by 256. C++ is `next_permutation` or `prev_permutation`, which asks nothing;",
     "GSL's steps follow its validity check and go by dictionary; SymPy's are its nearest functions (all partitions rather than those with k parts;",
     "its subsets' rank, which lists, only for the small family). PARI's are numtoperm and permtonum, GAP's is Binomial.",
-    *(["Before is an earlier build of the library, linked beside today's and measured in turn with it. Both begin on a page, so that code that is the",
-       "same lies the same: elsewhere within a line of 64 bytes it takes up to a quarter more."] if earlier else []), "")
+    *(["Before is an earlier build of the library, linked beside today's at the same places, and measured in turn with it."] if earlier else []), "")
 say("## Targets", "")
 targets()
 say("", "Why, by the profile:", "",
