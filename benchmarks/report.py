@@ -226,7 +226,10 @@ say("", "Why, by the profile:", "",
     "  UNRANK up to 19; for jumps RANK takes up to 40 more and UNRANK up to 24, that of integer partitions up to 191: at most 4 percent.",
     "- Question 10 and the floor take 11 to 15 instructions of a step, 12 to 24 of a RANK and 19 to 31 of a walk's step, the most of integer partitions, which read",
     "  the floor. The questions that are put to every call go by few comparisons, so that the compiler takes them into each call: where it didn't, a step of subsets",
-    "  (8, 4) took 46 instructions more than before instead of 12.")
+    "  (8, 4) took 46 instructions more than before instead of 12.",
+    "- Question 11 and the edition take 4 or 5 instructions of a COUNT, 5 to 9 of a step of the other kinds and 9 to 14 of a RANK. UNRANK of set partitions takes up",
+    "  to 72 more, since it tests the edition at each model. A step of theirs has two searches and two writers to choose from, and is as long as before: each is",
+    "  shorter, with a branch where a model opens a block and none where its key moves.")
 say("", "## Growth", "", "Instructions of the library for a call on one object, at doubled lengths.", "")
 growth()
 say("", "## Walks", "",
