@@ -8,17 +8,17 @@
 #ifdef WITH_BEFORE
 /* A family with the fields of that build: a struct by value of another size would be read wrongly. */
 typedef struct {
-    uint64_t kind, n, k, floor;
+    uint64_t kind, n, k, floor, edition;
 } before_family;
 
 static inline before_family before_family_of(arrangement_family f) {
-    before_family g = {f.kind, f.n, f.k, f.floor};
+    before_family g = {f.kind, f.n, f.k, f.floor, f.edition};
     return g;
 }
 
-/* Can it be asked about this family? Only where what it has no field for is the default. */
+/* Can it be asked about this family? It has kinds 1 to 6. */
 static inline int before_answers(arrangement_family f) {
-    return f.edition == 1;
+    return f.kind <= 6;
 }
 #else
 typedef arrangement_family before_family;

@@ -1,10 +1,11 @@
-"""Times SymPy's nearest functions; prints lines as measure.c does. SymPy has none for Dyck words, nor ranks of anagrams."""
+"""Times SymPy's nearest functions; prints lines as measure.c does. SymPy has none for Dyck words and derangements but their counts,
+nor ranks of anagrams."""
 import random
 import time
 
 try:
     import sympy
-    from sympy import binomial, catalan, factorial
+    from sympy import binomial, catalan, factorial, subfactorial
     from sympy.combinatorics import IntegerPartition, Partition, Permutation, Subset
     from sympy.functions.combinatorial.numbers import nT, stirling
 except ImportError:
@@ -78,3 +79,5 @@ for n, k in ((12, 4), (40, 10), (80, 18)):
     say(family, "PREVIOUS", IntegerPartition.prev_lex, lambda: (parts(n, k),))
 for n in (5, 18, 36):
     say(f"6 Dyck words {n}", "COUNT", catalan, lambda: (n,))
+for n in (8, 14, 20):
+    say(f"7 derangements {n}", "COUNT", subfactorial, lambda: (n,))

@@ -16,7 +16,7 @@ enum { POOL = 256, PLACES = 80 };
 
 typedef struct {
     const char *name; /* the family, as the table shows it */
-    const char *pool; /* which objects: random ones, or the one that costs most */
+    const char *pool; /* which objects: random ones, the one that costs most, the first ones, or the last ones */
     uint64_t kind, n, k, floor, edition;
     uint8_t counts[PLACES];
     size_t letters, len;
@@ -100,7 +100,16 @@ static void random_dyck(const Family *f, uint8_t *x) {
     memcpy(x, turned, len - 1);
 }
 
-/* The object whose NEXT looks at and writes the most. */
+static void random_derangement(const Family *f, uint8_t *x) {
+    size_t kept;
+    do {
+        random_word(f, x);
+        kept = 0;
+        for (size_t i = 0; i < f->n; i++) kept += x[i] == i + 1;
+    } while (kept > 0);
+}
+
+/* The object whose NEXT looks at and writes the most; of derangements one that is taken apart by cycles of two alone, with all places moved each time. */
 static void costly(const Family *f, uint8_t *x) {
     size_t k = f->len;
     for (size_t i = 0; i < k; i++) switch (f->kind) {
@@ -108,8 +117,23 @@ static void costly(const Family *f, uint8_t *x) {
         case 2: case 3: x[i] = (uint8_t)(i == 0 ? 1 : k - i + 1); break;
         case 4: x[i] = (uint8_t)(i + 1 == k ? 1 : i < f->k ? i + 1 : f->k); break;
         case 5: x[i] = (uint8_t)(f->n / k + (i < f->n % k)); break;
+        case 7: x[i] = (uint8_t)(k - i); break;
         default: x[i] = i < k / 2;
         }
+}
+
+/* Derangements from the first on, or from the last back: object i of the pool stands i places from that end. */
+static void from_an_end(const Family *f, int i) {
+    int on = f->pool[0] == 'f';
+    uint8_t *x = pool[i];
+    if (i == 0) {
+        for (size_t j = 0; j < f->n; j++) x[j] = (uint8_t)(on ? j + 2 : j % 2 == 0 ? j + 2 : j);
+        if (on) x[f->n - 1] = 1;
+        return;
+    }
+    memcpy(x, pool[i - 1], PLACES);
+    if (on) plain_next(f->kind, f->n, f->k, f->floor, f->edition, f->counts, f->letters, x, f->len);
+    else plain_previous(f->kind, f->n, f->k, f->floor, f->edition, f->counts, f->letters, x, f->len);
 }
 
 /* How far it is from one rank to another; half as far where that is no signed number. */
@@ -134,10 +158,12 @@ static void fill_pool(const Family *f) {
     for (int i = 0; i < POOL; i++) {
         ranks[i] = count ? random_number() % count : 0;
         if (f->pool[0] == 'c') costly(f, pool[i]);
+        else if (f->pool[0] != 'r') from_an_end(f, i);
         else if (f->kind == 1) random_subset(f, pool[i]);
         else if (f->kind == 2 || f->kind == 3) random_word(f, pool[i]);
         else if (f->kind == 4) random_blocks(f, pool[i]);
         else if (f->kind == 5) plain_unrank(5, f->n, f->k, f->floor, f->edition, f->counts, 0, ranks[i], pool[i], f->len);
+        else if (f->kind == 7) random_derangement(f, pool[i]);
         else random_dyck(f, pool[i]);
         if (f->ranks) plain_rank(f->kind, f->n, f->k, f->floor, f->edition, f->counts, f->letters, pool[i], f->len, &numbers[i]);
         distances[i] = distance(numbers[i], ranks[i]);
@@ -304,9 +330,13 @@ static const Family FAMILIES[] = {
     {"6 Dyck words 18", "random", 6, 18, 0, 1, 1, {0}, 0, 36, 1},
     {"6 Dyck words 36", "random", 6, 36, 0, 1, 1, {0}, 0, 72, 1},
     {"6 Dyck words 40", "random", 6, 40, 0, 1, 1, {0}, 0, 80, 0},
+    {"7 derangements 8", "random", 7, 8, 0, 1, 1, {0}, 0, 8, 1},
+    {"7 derangements 14", "random", 7, 14, 0, 1, 1, {0}, 0, 14, 1},
+    {"7 derangements 20", "random", 7, 20, 0, 1, 1, {0}, 0, 20, 1},
+    {"7 derangements 80", "random", 7, 80, 0, 1, 1, {0}, 0, 80, 0},
 };
 
-/* Objects whose step costs most, at doubled lengths. */
+/* Objects whose step costs most, at doubled lengths; of derangements those at both ends, too (their lengths are even). */
 static const Family GROWTH[] = {
     {"1 subsets (11, 10)", "costly", 1, 11, 10, 1, 1, {0}, 0, 10, 1},
     {"1 subsets (21, 20)", "costly", 1, 21, 20, 1, 1, {0}, 0, 20, 1},
@@ -328,6 +358,18 @@ static const Family GROWTH[] = {
     {"6 Dyck words 10", "costly", 6, 10, 0, 1, 1, {0}, 0, 20, 1},
     {"6 Dyck words 20", "costly", 6, 20, 0, 1, 1, {0}, 0, 40, 1},
     {"6 Dyck words 40", "costly", 6, 40, 0, 1, 1, {0}, 0, 80, 0},
+    {"7 derangements 10", "costly", 7, 10, 0, 1, 1, {0}, 0, 10, 1},
+    {"7 derangements 20", "costly", 7, 20, 0, 1, 1, {0}, 0, 20, 1},
+    {"7 derangements 40", "costly", 7, 40, 0, 1, 1, {0}, 0, 40, 0},
+    {"7 derangements 80", "costly", 7, 80, 0, 1, 1, {0}, 0, 80, 0},
+    {"7 derangements 10", "first", 7, 10, 0, 1, 1, {0}, 0, 10, 1},
+    {"7 derangements 20", "first", 7, 20, 0, 1, 1, {0}, 0, 20, 1},
+    {"7 derangements 40", "first", 7, 40, 0, 1, 1, {0}, 0, 40, 0},
+    {"7 derangements 80", "first", 7, 80, 0, 1, 1, {0}, 0, 80, 0},
+    {"7 derangements 10", "last", 7, 10, 0, 1, 1, {0}, 0, 10, 1},
+    {"7 derangements 20", "last", 7, 20, 0, 1, 1, {0}, 0, 20, 1},
+    {"7 derangements 40", "last", 7, 40, 0, 1, 1, {0}, 0, 40, 0},
+    {"7 derangements 80", "last", 7, 80, 0, 1, 1, {0}, 0, 80, 0},
 };
 
 static void steps_and_jumps(const Family *f, int counting) {
@@ -343,7 +385,7 @@ static void all_calls(const Family *f, int counting) {
     fill_pool(f);
     for (Call c = COUNT; c <= UNRANK; c++) {
         if (!f->ranks && c != NEXT && c != PREVIOUS) continue;
-        if (f->pool[0] == 'c' && c == COUNT) continue;
+        if (f->pool[0] != 'r' && c == COUNT) continue;
         agree(f, c, PLAIN);
         Who who[MOST] = {LIBRARY, PLAIN};
         int number = 2, steps = c == NEXT || c == PREVIOUS;

@@ -9,6 +9,10 @@ enum { PLACES = 80, BRANCHES = 40, FLOORS = 80, END = 100 };
 static uint64_t choose[PLACES + 1][PLACES + 1], blocks[PLACES + 1][PLACES + 1], parts[PLACES + 1][PLACES + 1];
 static uint64_t factorials[PLACES + 1], catalans[BRANCHES + 1];
 
+/* Derangements of 0, 1, .. up to the most below 2^64. */
+static const uint64_t derangements[] = {1, 0, 1, 2, 9, 44, 265, 1854, 14833, 133496, 1334961, 14684570, 176214841, 2290792932, 32071101049, 481066515734,
+    7697064251745, 130850092279664, 2355301661033953, 44750731559645106, 895014631192902121};
+
 static uint64_t add(uint64_t a, uint64_t b) {
     uint64_t v;
     return a == 0 || b == 0 || __builtin_add_overflow(a, b, &v) ? 0 : v;
@@ -50,7 +54,7 @@ static uint32_t table(uint64_t kind, uint64_t n, uint64_t k, uint64_t floor, uin
         if (n > PLACES || k > PLACES) return 2;
         *length = kind == 4 ? n : k;
         break;
-    case 2: case 3:
+    case 2: case 3: case 7:
         if (n > PLACES || k != 0) return 2;
         *length = n;
         break;
@@ -73,7 +77,7 @@ static uint32_t table(uint64_t kind, uint64_t n, uint64_t k, uint64_t floor, uin
 static bool has_object(uint64_t kind, uint64_t n, uint64_t k, uint64_t floor) {
     if (kind == 1) return k <= n;
     if (kind == 4 || kind == 5) return k * floor <= n && (k > 0 || n == 0);
-    return true;
+    return kind != 7 || n != 1;
 }
 
 /* k parts of at least p with the sum n. */
@@ -101,6 +105,7 @@ static bool count_of(uint64_t kind, uint64_t n, uint64_t k, uint64_t floor, cons
     case 3: *value = factorials[n]; break;
     case 4: *value = n == 0 ? 1 : blocks[n][k]; break;
     case 5: *value = at_least(floor, n, k); break;
+    case 7: *value = n < sizeof derangements / sizeof *derangements ? derangements[n] : 0; break;
     default: *value = catalans[n];
     }
     return *value != 0;
@@ -127,6 +132,12 @@ static bool is_permutation(const uint8_t *x, size_t len) {
         seen[x[i]] = true;
     }
     return true;
+}
+
+static bool is_derangement(const uint8_t *x, size_t len) {
+    for (size_t i = 0; i < len; i++)
+        if (x[i] == i + 1) return false;
+    return is_permutation(x, len);
 }
 
 static bool is_set_partition(uint64_t k, const uint8_t *x, size_t len) {
@@ -164,6 +175,7 @@ static bool is_object(uint64_t kind, uint64_t n, uint64_t k, uint64_t floor, con
     case 3: return is_permutation(x, len);
     case 4: return is_set_partition(k, x, len);
     case 5: return is_integer_partition(n, floor, x, len);
+    case 7: return is_derangement(x, len);
     default: return is_dyck_word(x, len);
     }
 }
@@ -382,6 +394,70 @@ static bool dyck_back(uint8_t *x, size_t len, const uint8_t *inside) {
     return true;
 }
 
+/* Takes n out of a derangement of n, n at least 2; with c for f(n). Where f(c) isn't n, what went to n goes to c, and the key is c; else c is taken out
+ * too, places and labels above it move down, and the key is n - 1 + c. Left in front is a derangement of left_by(n, key). */
+static size_t take_apart(uint8_t *x, size_t n) {
+    size_t c = x[n - 1], a = 0;
+    if (x[c - 1] != n) {
+        while (x[a] != n) a++;
+        x[a] = (uint8_t)c;
+        return c;
+    }
+    for (size_t i = 0; i + 1 < c; i++) x[i] = (uint8_t)(x[i] - (x[i] > c));
+    for (size_t i = c; i + 1 < n; i++) x[i - 1] = (uint8_t)(x[i] - (x[i] > c));
+    return n - 1 + c;
+}
+
+static size_t left_by(size_t n, size_t key) {
+    return key < n ? n - 1 : n - 2;
+}
+
+/* The reverse. */
+static void put_together(uint8_t *x, size_t n, size_t key) {
+    size_t c = key < n ? key : key - (n - 1), a = 0;
+    if (key < n) {
+        while (x[a] != c) a++;
+        x[a] = (uint8_t)n;
+    } else {
+        for (size_t i = n - 2; i >= c; i--) x[i] = (uint8_t)(x[i - 1] + (x[i - 1] >= c));
+        for (size_t i = 0; i + 1 < c; i++) x[i] = (uint8_t)(x[i] + (x[i] >= c));
+        x[c - 1] = (uint8_t)n;
+    }
+    x[n - 1] = (uint8_t)c;
+}
+
+static void first_derangement(uint8_t *x, size_t n) {
+    for (size_t i = 0; i < n; i++) x[i] = (uint8_t)(i + 1 < n ? i + 2 : 1);
+}
+
+static void last_derangement(uint8_t *x, size_t n) {
+    size_t i = 0;
+    if (n % 2 == 1) {
+        x[i++] = 3;
+        x[i++] = 1;
+        x[i++] = 2;
+    }
+    for (; i < n; i += 2) {
+        x[i] = (uint8_t)(i + 2);
+        x[i + 1] = (uint8_t)(i + 1);
+    }
+}
+
+static bool step_derangement(bool on, uint8_t *x, size_t n) {
+    if (n == 0) return false;
+    size_t key = take_apart(x, n);
+    bool moved = step_derangement(on, x, left_by(n, key));
+    /* no derangement of 1: of 2 there is the highest key alone, of 3 there are two */
+    size_t end = on ? (n == 3 ? 2 : 2 * (n - 1)) : n == 2 ? 2 : 1;
+    if (!moved && key != end) {
+        key = on ? key + 1 : key - 1;
+        (on ? first_derangement : last_derangement)(x, left_by(n, key));
+        moved = true;
+    }
+    put_together(x, n, key);
+    return moved;
+}
+
 static uint32_t step(bool on, uint64_t kind, uint64_t n, uint64_t floor, uint64_t edition, uint8_t *x, size_t len) {
     uint8_t inside[2 * BRANCHES];
     switch (kind) {
@@ -391,6 +467,7 @@ static uint32_t step(bool on, uint64_t kind, uint64_t n, uint64_t floor, uint64_
         if (edition == 2) return on ? next_of_edition_2(x, len) : previous_of_edition_2(x, len);
         return on ? next_set_partition(x, len) : previous_set_partition(x, len);
     case 5: return on ? next_integer_partition(x, len) : previous_integer_partition(floor, x, len);
+    case 7: return step_derangement(on, x, len) ? 0 : END;
     default:
         insides(x, len, inside);
         return (on ? dyck_on : dyck_back)(x, len, inside) ? 0 : END;
@@ -530,6 +607,30 @@ static void unrank_dyck(uint64_t rank, uint8_t *x, size_t len) {
     unrank_dyck(rank % catalans[m - j], x + 2 * j + 2, 2 * (m - j));
 }
 
+static uint64_t rank_derangement(uint8_t *x, size_t n) {
+    uint64_t rank = 0;
+    while (n > 0) {
+        size_t key = take_apart(x, n);
+        rank += key < n ? (key - 1) * derangements[n - 1] : (n - 1) * derangements[n - 1] + (key - n) * derangements[n - 2];
+        n = left_by(n, key);
+    }
+    return rank;
+}
+
+static void unrank_derangement(uint64_t rank, uint8_t *x, size_t n) {
+    if (n == 0) return;
+    uint64_t each = derangements[n - 1], longer = (n - 1) * each;
+    size_t key = 1;
+    if (rank >= longer) {
+        rank -= longer;
+        each = derangements[n - 2];
+        key = n;
+    }
+    key += rank / each;
+    unrank_derangement(rank % each, x, left_by(n, key));
+    put_together(x, n, key);
+}
+
 static uint64_t rank_of(uint64_t kind, uint64_t n, uint64_t k, uint64_t floor, uint64_t edition, const uint8_t *counts, uint64_t count, const uint8_t *x, size_t len) {
     uint8_t work[PLACES];
     uint64_t rank = 0;
@@ -541,6 +642,7 @@ static uint64_t rank_of(uint64_t kind, uint64_t n, uint64_t k, uint64_t floor, u
     case 3: memset(work, 1, n); return rank_word(work, count, x, len);
     case 4: return edition == 2 ? rank_of_edition_2(k, x, len) : rank_set_partition(k, x, len);
     case 5: return rank_integer_partition(n, floor, x, len);
+    case 7: memcpy(work, x, len); return rank_derangement(work, len);
     default:
         insides(x, len, work);
         return rank_dyck(x, len, work);
@@ -565,6 +667,7 @@ static void unrank_of(uint64_t kind, uint64_t n, uint64_t k, uint64_t floor, uin
         else unrank_set_partition(k, rank, x, len);
         break;
     case 5: unrank_integer_partition(n, floor, rank, x, len); break;
+    case 7: unrank_derangement(rank, x, len); break;
     default: unrank_dyck(rank, x, len);
     }
 }

@@ -24,6 +24,7 @@ interpreted = next((w for (_, _, _, w) in times if w.startswith("sympy")), None)
 families = list(dict.fromkeys((f, p) for (f, p, _, w) in times if w == "library"))
 calls = ("COUNT", "NEXT", "PREVIOUS", "RANK", "UNRANK")
 walks = ("WALK NEXT", "WALK PREVIOUS")
+ends = {"first": ", the first 256", "last": ", the last 256"}
 earlier = any(w == "before" for (_, _, _, w) in times)
 
 
@@ -67,8 +68,8 @@ def growth():
     shown = (*calls[1:], *walks, "JUMP")
     say(f"| family, the object that costs most | {' | '.join(shown)} |", "|---" + "|---:" * len(shown) + "|")
     for family, pool in families:
-        if pool == "costly":
-            say(f"| {family} | " + " | ".join(ns(counts.get((family, pool, c, "library"))) for c in shown) + " |")
+        if pool != "random":
+            say(f"| {family}{ends.get(pool, '')} | " + " | ".join(ns(counts.get((family, pool, c, "library"))) for c in shown) + " |")
 
 
 def walk_rows():
@@ -152,6 +153,23 @@ def edition_targets(limit, limit_now):
         say(*[f"  - missed: {r[2]} ({r[0]:.2f} by instructions, {r[1]:.2f} by time)" for r in rows if max(r[:2]) > r[3]])
 
 
+def derangement_targets(family, limit, limit_costly):
+    """The largest instruction counts of a step, on random objects and on those that cost most; what lies above the limits."""
+    rows = [(counts[(f, p, c, "library")], f"{c}{ends.get(p, '')}", p) for f, p in families for c in ("NEXT", "PREVIOUS") if f == family]
+    any_object, costly = max(r for r in rows if r[2] == "random"), max(r for r in rows if r[2] != "random")
+    say(f"- NEXT and PREVIOUS of {family[2:]} below {limit:,} instructions: largest {ns(any_object[0])} ({any_object[1]}); below {limit_costly:,} on the objects "
+        f"that cost most: largest {ns(costly[0])} ({costly[1]}).")
+    say(*[f"  - missed: {what} ({ns(a)})" for a, what, p in rows if a >= (limit if p == "random" else limit_costly)])
+
+
+def derangement_ranks(limit):
+    """Of RANK and UNRANK, the largest ratios to plain C by instructions and by time; what lies above the limit."""
+    rows = [(c, f, *(v[(f, p, c, "library")] / v[(f, p, c, "plain")] for v in (counts, times))) for f, p in families for c in ("RANK", "UNRANK") if f[0] == "7" and p == "random" and (f, p, c, "library") in times]
+    largest = [f"{call} {max(a for c, _, a, _ in rows if c == call):.2f} and {max(t for c, _, _, t in rows if c == call):.2f}" for call in ("RANK", "UNRANK")]
+    say(f"- RANK and UNRANK of derangements at most {limit} times plain C: largest by instructions and by time {', '.join(largest)}.")
+    say(*[f"  - missed: {c} of {f} ({a:.2f} by instructions, {t:.2f} by time)" for c, f, a, t in rows if max(a, t) > limit])
+
+
 def worst(group, limit):
     """The largest ratio of a group of calls, by time and by instructions, and what lies above the limit."""
     rows = []
@@ -194,6 +212,8 @@ def targets():
     subset_ranks(1.7)
     floor_targets(2)
     edition_targets(1.2, 1.1)
+    derangement_targets("7 derangements 80", 30000, 45000)
+    derangement_ranks(3)
 
 
 say("# Benchmarks", "", f"Written by `benchmarks/run` on {datetime.date.today()}: {shell('lscpu | sed -n s/^Model.name:[[:space:]]*//p')}, {shell('gcc --version | head -1')}, -O2.", "")
@@ -230,7 +250,7 @@ say("", "Why, by the profile:", "",
     "- Question 11 and the edition take 4 or 5 instructions of a COUNT, 5 to 9 of a step of the other kinds and 9 to 14 of a RANK. UNRANK of set partitions takes up",
     "  to 72 more, since it tests the edition at each model. A step of theirs has two searches and two writers to choose from, and is as long as before: each is",
     "  shorter, with a branch where a model opens a block and none where its key moves.")
-say("", "## Growth", "", "Instructions of the library for a call on one object, at doubled lengths.", "")
+say("", "## Growth", "", "Instructions of the library for a call on one object, at doubled lengths; of derangements also on the first and the last 256, at each end.", "")
 growth()
 say("", "## Walks", "",
     "A walk's step, with the object's own number, beside NEXT or PREVIOUS followed by RANK, on the same 256 objects of each family whose count is below 2^64;",

@@ -17,6 +17,7 @@
  *   kind 4  set partitions: byte i is the block of model i  n bytes       n, k up to 80, edition 1 or 2
  *   kind 5  integer partitions of n into k parts >= floor   k bytes       n, k up to 80, floor 1 to 80
  *   kind 6  Dyck words with n of each, 1 up and 0 down      2n bytes      n up to 40, k = 0
+ *   kind 7  derangements: permutations, byte i never being in bytes       n up to 80, k = 0
  * The editions of kind 4 have the same objects and differ in the order: in edition 1 a model that is the smallest of its block comes before the same
  * model in blocks 1, 2, .., in edition 2 behind it.
  *
@@ -37,7 +38,7 @@ extern "C" {
 
 /* Refusals, by the number of the first question that is answered by no, in the order in which questions are put; in brackets the calls to which it is
  * put, if not to all. */
-#define ARRANGEMENT_REFUSED_KIND 1u          /* is the kind 1 to 6? */
+#define ARRANGEMENT_REFUSED_KIND 1u          /* is the kind 1 to 7? */
 #define ARRANGEMENT_REFUSED_BOUNDS 2u        /* are n and k within the table above? */
 #define ARRANGEMENT_REFUSED_FLOOR 10u        /* is the floor 1 to 80, and 1 for every kind but 5? */
 #define ARRANGEMENT_REFUSED_EDITION 11u      /* is the edition 1 or 2, and 1 for every kind but 4? */

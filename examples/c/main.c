@@ -1,4 +1,4 @@
-/* A number for an arrangement, the arrangement for a number, one step on and back, a walk, jumps, a floor, an edition. Build and run: examples/c/run */
+/* A number for an arrangement, the arrangement for a number, one step on and back, a walk, jumps, a floor, an edition, derangements. Build and run: examples/c/run */
 #include <inttypes.h>
 #include <stdio.h>
 #include <string.h>
@@ -70,6 +70,24 @@ static int editions(void)
     return code == ARRANGEMENT_REFUSED_EDITION ? 0 : 1;
 }
 
+/* All ways to hang 4 models anew with none on its old hook; a single model has none. 0, or 1 where an answer is another. */
+static int derangements(void)
+{
+    const arrangement_lists none = arrangement_no_lists();
+    uint8_t hooks[4];
+
+    uint32_t code = arrangement_first(arrangement_family_of(7, 4, 0), &none, hooks, 4);
+    while (code == ARRANGEMENT_DONE) {
+        show("4 models, none on its old hook", hooks, 4);
+        code = arrangement_next(arrangement_family_of(7, 4, 0), &none, hooks, 4);
+    }
+    if (code != ARRANGEMENT_END)
+        return 1;
+    code = arrangement_first(arrangement_family_of(7, 1, 0), &none, hooks, 1);
+    printf("a single model is refused by question %" PRIu32 "\n", code);
+    return code == ARRANGEMENT_REFUSED_NO_OBJECTS ? 0 : 1;
+}
+
 int main(void)
 {
     /* A tree with two of model 1, three of model 2 and two of model 3, hung in this order. */
@@ -110,7 +128,7 @@ int main(void)
         show(what, tree, 7);
     }
 
-    if (jumps(trees, &lists, tree) != 0 || floors() != 0 || editions() != 0)
+    if (jumps(trees, &lists, tree) != 0 || floors() != 0 || editions() != 0 || derangements() != 0)
         return 1;
 
     /* A number that no arrangement has is refused by its question, 8, and the tree stays. */

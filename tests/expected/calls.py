@@ -5,16 +5,21 @@ crates/test_calls/src/main.rt has the form of a case and the letters. The librar
     python3 tests/expected/calls.py"""
 from itertools import product
 
-from families import BRANCHES, FLOORS, PLACES, Filtered, Ranks, count, family, full_name, length, name, refusal, stirling
+from families import BRANCHES, FLOORS, KINDS, PLACES, Filtered, Ranks, count, derangements, family, full_name, length, name, refusal, stirling
 from samples import (
     BELOW_FLOOR,
+    BEYOND_DERANGEMENTS,
     BEYOND_EDITIONS,
+    DERANGEMENTS_MISSED,
     EDITIONS_MISSED,
     FLOORS_MISSED,
+    LARGE_DERANGEMENTS,
     LARGE_EDITIONS,
     LARGE_FLOORS,
     LARGEST,
+    NO_DERANGEMENTS,
     NO_PARTITIONS,
+    OTHER_LENGTHS,
     WRONG_EDITIONS,
     WRONG_FLOORS,
     some_bytes,
@@ -117,12 +122,13 @@ def refusals():
     up = lambda n: range(1, n + 1)
     cases = [
         (1, "", family(0, 4, 2), up(2), 0),
-        (1, "", family(7, 4, 2), up(2), 0),
+        (1, "", family(KINDS + 1, 4, 2), up(2), 0),
         (1, "", family(LARGEST, 4, 2), up(2), 0),
         (2, "", family(1, PLACES + 1, 2), up(2), 0),
         (2, "", family(1, 4, PLACES + 1), up(2), 0),
         (2, "", family(3, 4, 1), up(4), 0),
         (2, "", family(6, BRANCHES + 1), up(PLACES), 0),
+        (2, "", family(7, 4, 2), up(2), 0),
         (3, " with n 3", family(2, 3, 0, (1, 1)), up(2), 0),
         (3, "", family(2, 2, 0, (PLACES, 1)), up(2), 0),
         (3, " with a count", family(1, 4, 2, (0,)), up(2), 0),
@@ -223,12 +229,55 @@ def refused_editions():
         yield f"question 7, {name(f)} at{words(x)}", "rnp", 0, f, x, Ranks
 
 
+def small_derangements():
+    """Walked both ways and through the ranks where there is an object; the smaller ones listed, too."""
+    for f in [family(7, n) for n in range(8)]:
+        listed = "az" if f.n < 6 else ""
+        yield name(f), "cwbt" + listed if count(f) else "c", 0, f, [0] * length(f), Filtered
+
+
+def turns(n):
+    """Ranks at which f(n) rises, and where n goes into a cycle of two: the derangement that is left starts over there."""
+    longer, two = derangements(n - 1), derangements(n - 2)
+    return {longer, (n - 2) * longer, (n - 1) * longer, (n - 1) * longer + two, (n - 1) * longer + (n - 2) * two}
+
+
+def large_derangements():
+    """Steps from both ends; then steps round objects by their ranks: the first, those where f(n) rises, some between, and the last. Where ranks don't
+    fit, steps alone, and far from both ends and back again."""
+    for f in LARGE_DERANGEMENTS:
+        last = count(f) - 1
+        yield name(f), "c><", 0, f, [0] * length(f), Ranks
+        for r in sorted({0, 1, *turns(f.n), last // 2, last // 3, last, last + 1}):
+            yield f"{name(f)} from {r}", "Urnppn" if r <= last else "u", r, f, [0] * length(f), Ranks
+    for f in BEYOND_DERANGEMENTS:
+        yield name(f), "c><ru", 0, f, [0] * length(f), Ranks
+    f = family(7, PLACES)
+    # the 300 steps of the walk, 200 more, and all of them back
+    yield f"{name(f)} on", ">" + "n" * 200 + "p" * 501, 0, f, [0] * length(f), Ranks
+    yield f"{name(f)} back", "<" + "p" * 200 + "n" * 501, 0, f, [0] * length(f), Ranks
+
+
+def refused_derangements():
+    """As `refused_floors`; and lengths and ranks."""
+    for q, f in DERANGEMENTS_MISSED:
+        yield f"question {q}, {full_name(f)}", "crnpulf", 0, f, some_bytes(f), Ranks
+    for f, x in OTHER_LENGTHS:
+        yield f"question 6, {name(f)} on {len(x)} bytes", "crnpulf", 0, f, x, Ranks
+    for f, x in NO_DERANGEMENTS:
+        yield f"question 7, {name(f)} at{words(x)}", "rnp", 0, f, x, Ranks
+    for f, r in ((family(7, 4), 8), (family(7, 4), 9), (family(7, 4), LARGEST), (family(7, 0), 1)):
+        yield f"question 8, {name(f)} with rank {r}", "u", r, f, [0] * length(f), Ranks
+
+
 # Typed from the sources, the answers too: source and number, letter, family, what is lent or the rank, the answer.
 LISTED = [
     ("000 5.39", family(3, 4), "1234 1243 1324 1342 1423 1432 2134 2143"),
     ("000 5.40", family(1, 5, 2), "12 13 23 14 24 34 15 25 35 45 END"),
     ("004 3.1", family(1, 4, 4), "1234 END"),
     ("000 5.35", family(6, 3), "101010 101100 110010 110100 111000 END"),
+    # an exercise without answers: here and below they are worked out in 004's order, by its recursion
+    ("000 5.96", family(7, 4), "2341 3421 4312 3142 2413 4123 4321 3412 2143 END"),
 ]
 WORKED = [
     ("000 5.20", "r", family(3, 6), "462153", "463"),
@@ -255,6 +304,13 @@ WORKED = [
     ("000 5.41", "N", family(6, 3), "101100", "110010"),
     ("000 5.41", "F", family(6, 4), None, "10101010"),
     ("000 5.41", "L", family(6, 4), None, "11110000"),
+    # f(7) = 4 and f(4) = 7: behind 6 * 265 + 3 * 44 others; left are 3 4 2 5 1, 3 4 2 1 and 3 1 2, the first two with c = 1, the last behind 1 other
+    ("000 5.96", "r", family(7, 7), "3527614", "1723"),
+    # 6 * 265 + 4 * 44 + 10: 7 and 5 exchanged, beside 3 4 5 1 2, of rank 10 = 1 * 9 + 1: 5 put before 2 in 3 4 2 1, of rank 1
+    ("000 5.96", "U", family(7, 7), 1776, "3461725"),
+    # "FIRST(D(2)) is the 2-cycle (1, 2)", "for all n >= 2, FIRST(D(n)) is the n-cycle (1, 2, 3, .., n)"
+    ("004 3.4", "F", family(7, 2), None, "21"),
+    ("004 3.4", "F", family(7, 9), None, "234567891"),
 ]
 
 
@@ -277,9 +333,11 @@ def published():
 
 
 def check_ranks():
-    """In both editions, set partitions by rank are those that are sorted."""
+    """In both editions, set partitions by rank are those that are sorted; and so are derangements."""
     for edition, n, k in product((1, 2), range(8), range(1, 9)):
         f = family(4, n, k, edition=edition)
+        assert [Ranks(f).object(r) for r in range(count(f))] == Filtered(f).objects
+    for f in [family(7, n) for n in range(8)]:
         assert [Ranks(f).object(r) for r in range(count(f))] == Filtered(f).objects
 
 
@@ -288,6 +346,7 @@ def main():
     made = {"small_families": small_families(), "refusals": refusals(), "large_families": large_families(), "listings": listings()}
     made["floors"] = [*small_floors(), *large_floors(), *refused_floors()]
     made["editions"] = [*small_editions(), *large_editions(), *refused_editions()]
+    made["derangements"] = [*small_derangements(), *large_derangements(), *refused_derangements()]
     expected = []
     for file in open("crates/test_calls/args").read().split():
         if file == "published":

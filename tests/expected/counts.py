@@ -8,16 +8,23 @@ import families
 from families import BRANCHES, FITS, FLOORS, PLACES
 from texts import words, write
 
+
+def derangement(n):
+    """By inclusion and exclusion, i places fixed and the others in any order: not by the recursion that defines the library's numbers."""
+    return sum((-1) ** i * comb(n, i) * factorial(n - i) for i in range(n + 1))
+
+
 COUNTS = {
     "binomial": comb,
     "stirling": families.stirling,
     "partitions": families.partitions,
     "factorial": factorial,
     "catalan": families.catalan,
+    "derangement": derangement,
     "multinomial": lambda *counts: families.multinomial(counts),
 }
 # how many of a line's numbers each takes; a multinomial takes all
-TAKES = {"binomial": 2, "stirling": 2, "partitions": 3, "factorial": 1, "catalan": 1}
+TAKES = {"binomial": 2, "stirling": 2, "partitions": 3, "factorial": 1, "catalan": 1, "derangement": 1}
 
 
 def outside(what, numbers):
@@ -66,7 +73,7 @@ def main():
             # the floor in the label only where it isn't 1
             for what, *floor in (("binomial",), ("stirling",), ("partitions",), ("partitions", 2)):
                 lines.append(f"{what}{words((n, k, *floor))}: {answer(what, n, k, *(floor or [1]))}")
-        lines += [f"{what} {n}: {answer(what, n)}" for what in ("factorial", "catalan")]
+        lines += [f"{what} {n}: {answer(what, n)}" for what in ("factorial", "catalan", "derangement")]
     write("crates/test_counts/stdout", lines)
 
 

@@ -1,15 +1,15 @@
-"""The six families of paper 01, with the floor and the editions of paper 02, written from their words and not from the library: the table's
+"""The six families of paper 01, and of paper 02 the floor, the editions and kind 7, written from their words and not from the library: the table's
 bounds and tests, "Which of two objects comes first" as comparisons, and the questions in their order. Two listings: `Filtered`, all strings
 that pass the table's test, sorted by the comparison, for small families; and `Ranks`, objects by rank, counted place by place as 000 and 004
 do, for large ones, where the order rests on the same recursion as the library's listings."""
 from functools import cache, cmp_to_key
-from itertools import combinations, combinations_with_replacement, product
+from itertools import combinations, combinations_with_replacement, permutations, product
 from math import comb, factorial
 from typing import NamedTuple
 
-PLACES, BRANCHES, FLOORS, EDITIONS = 80, 40, 80, 2
+PLACES, BRANCHES, FLOORS, EDITIONS, KINDS = 80, 40, 80, 2, 7
 FITS = 2**64
-NAMES = {1: "subsets", 2: "anagrams", 3: "permutations", 4: "set partitions", 5: "integer partitions", 6: "Dyck words"}
+NAMES = {1: "subsets", 2: "anagrams", 3: "permutations", 4: "set partitions", 5: "integer partitions", 6: "Dyck words", 7: "derangements"}
 
 
 class Family(NamedTuple):
@@ -36,7 +36,7 @@ def name(f):
     if f.kind == 2:
         called = f"{NAMES[2]} of {' '.join(map(str, f.counts)) or 'no letters'}"
     else:
-        called = f"{NAMES.get(f.kind, f'kind {f.kind}')} {f.n}" + (f" {f.k}" if f.kind not in (3, 6) or f.k else "")
+        called = f"{NAMES.get(f.kind, f'kind {f.kind}')} {f.n}" + (f" {f.k}" if f.kind not in (3, 6, 7) or f.k else "")
     called += f" with floor {f.floor}" if f.floor != 1 else ""
     return called + (f" in edition {f.edition}" if f.edition != 1 else "")
 
@@ -48,7 +48,7 @@ def full_name(f):
 
 
 def length(f):
-    return {1: f.k, 2: sum(f.counts), 3: f.n, 4: f.n, 5: f.k, 6: 2 * f.n}[f.kind]
+    return {1: f.k, 2: sum(f.counts), 3: f.n, 4: f.n, 5: f.k, 6: 2 * f.n, 7: f.n}[f.kind]
 
 
 def is_object(f, x):
@@ -67,6 +67,9 @@ def is_object(f, x):
         return set(x) == set(range(1, k + 1)) and smallest == sorted(smallest)
     if kind == 5:
         return all(b >= f.floor for b in x) and all(a >= b for a, b in zip(x, x[1:])) and sum(x) == n
+    if kind == 7:
+        # "a permutation with f(i) never i"
+        return sorted(x) == list(range(1, n + 1)) and all(b != i for i, b in enumerate(x, 1))
     return set(x) <= {0, 1} and x.count(1) == x.count(0) and all(x[:i].count(0) <= x[:i].count(1) for i in range(len(x)))
 
 
@@ -91,10 +94,27 @@ def plan_order(x, y):
     return len(a) - len(b) or plan_order(a, b) or plan_order(p, q)
 
 
+@cache
+def cuts(x):
+    """Kind 7: "let c be f(n)". Whether f(c) is n, and c; then the same of the derangement of n - 1 "left when n is cut out of its cycle", or of n - 2
+    "left when c and n are removed and labels above c move down by one"; and so on. Of two objects the one whose cuts are smaller comes first."""
+    f, found = dict(enumerate(x, 1)), []
+    while f:
+        n, c = len(f), f[len(f)]
+        found.append((f[c] == n, c))
+        if f[c] == n:
+            f = {i - (i > c): b - (b > c) for i, b in f.items() if i not in (c, n)}
+        else:
+            f = {i: c if b == n else b for i, b in f.items() if i != n}
+    return found
+
+
 def compare(f, x, y):
     """Below 0 where x comes first; both are objects of the family."""
     if f.kind == 6:
         return plan_order(x, y)
+    if f.kind == 7:
+        return (cuts(x) > cuts(y)) - (cuts(x) < cuts(y))
     if f.kind == 4:
         x, y = keys(x), keys(y)
     places = [i for i in range(len(x)) if x[i] != y[i]]
@@ -134,6 +154,12 @@ def catalan(n):
     return comb(2 * n, n) // (n + 1)
 
 
+@cache
+def derangements(n):
+    """By inclusion and exclusion, i places kept and the others in any order; not by the recursion."""
+    return sum((-1) ** i * comb(n, i) * factorial(n - i) for i in range(n + 1))
+
+
 def multinomial(counts):
     m = factorial(sum(counts))
     for c in counts:
@@ -149,6 +175,7 @@ def count(f):
         4: lambda: stirling(f.n, f.k),
         5: lambda: partitions(f.n, f.k, f.floor),
         6: lambda: catalan(f.n),
+        7: lambda: derangements(f.n),
     }[f.kind]()
 
 
@@ -165,13 +192,15 @@ def divisions(models):
 
 
 def strings(f):
-    """All that can pass the table's test. Of kinds 4 and 5, where they would be too many: those of all divisions into blocks, whatever k; the weakly
-    descending ones."""
+    """All that can pass the table's test. Of kinds 4, 5 and 7, where they would be too many: those of all divisions into blocks, whatever k; the weakly
+    descending ones; the permutations."""
     if f.kind == 4:
         models = range(f.n)
         return (tuple(next(b for b, block in enumerate(blocks, 1) if m in block) for m in models) for blocks in divisions(models))
     if f.kind == 5:
         return combinations_with_replacement(range(f.n, -1, -1), length(f))
+    if f.kind == 7:
+        return permutations(range(1, f.n + 1))
     return product(range({6: 1}.get(f.kind, f.n) + 1), repeat=length(f))
 
 
@@ -212,6 +241,7 @@ class Ranks:
             4: lambda: set_partition(f.n, f.k, f.edition, r),
             5: lambda: integer_partition(f.n, f.k, f.floor, r),
             6: lambda: plan(f.n, r),
+            7: lambda: derangement(f.n, r),
         }[f.kind]()
         self.known = {x: r}
         return x
@@ -287,13 +317,31 @@ def plan(n, r):
     return (1,) + plan(inside, a) + (0,) + plan(n - 1 - inside, b)
 
 
+def derangement(n, r):
+    """f(n), which is c, decides first: for each c the derangements of n - 1, with n put before c in its cycle; then for each c those of n - 2, with
+    labels from c on moved up by one, and n and c exchanged."""
+    if n == 0:
+        return ()
+    longer = (n - 1) * derangements(n - 1)
+    if r < longer:
+        before, r = divmod(r, derangements(n - 1))
+        x, c = list(derangement(n - 1, r)), before + 1
+        x[x.index(c)] = n
+    else:
+        before, r = divmod(r - longer, derangements(n - 2))
+        x, c = list(derangement(n - 2, r)), before + 1
+        x = [b + (b >= c) for b in x]
+        x.insert(c - 1, n)
+    return (*x, c)
+
+
 def within(f):
-    return 0 <= f.n <= (BRANCHES if f.kind == 6 else PLACES) and (f.k == 0 if f.kind in (2, 3, 6) else 0 <= f.k <= PLACES)
+    return 0 <= f.n <= (BRANCHES if f.kind == 6 else PLACES) and (f.k == 0 if f.kind in (2, 3, 6, 7) else 0 <= f.k <= PLACES)
 
 
 def not_allowed(f):
     """Of the questions that are put to every call, the number of the first to which the answer is no, or 0."""
-    if not 1 <= f.kind <= 6:
+    if not 1 <= f.kind <= KINDS:
         return 1
     if not within(f):
         return 2

@@ -6,15 +6,19 @@ on the listings of families.py, with Python's integers.
     python3 tests/expected/jumps.py"""
 from functools import cache
 
-from families import BRANCHES, FITS, PLACES, Filtered, Ranks, count, family, full_name, length, name, refusal
+from families import BRANCHES, FITS, KINDS, PLACES, Filtered, Ranks, count, family, full_name, length, name, refusal
 from samples import (
     BELOW_FLOOR,
+    DERANGEMENTS_MISSED,
     EDITIONS_MISSED,
     FLOORS_MISSED,
+    LARGE_DERANGEMENTS,
     LARGE_EDITIONS,
     LARGE_FLOORS,
+    NO_DERANGEMENTS,
     NO_PARTITIONS,
     SAMPLES,
+    SMALL_DERANGEMENTS,
     SMALL_EDITIONS,
     SMALL_FLOORS,
     WRONG_EDITIONS,
@@ -92,7 +96,7 @@ def small_families():
 
 
 # one object each
-ALONE = tuple(family(*f) for f in ((1, 5, 0), (1, 5, 5), (2, 0), (2, 1, 0, (3,)), (3, 0), (3, 1), (4, 0, 0), (5, 0, 0), (6, 0)))
+ALONE = tuple(family(*f) for f in ((1, 5, 0), (1, 5, 5), (2, 0), (2, 1, 0, (3,)), (3, 0), (3, 1), (4, 0, 0), (5, 0, 0), (6, 0), (7, 0), (7, 2)))
 
 
 def both_ends():
@@ -166,12 +170,12 @@ def large_families():
 
 def missing():
     """Families that miss each question 1 to 5, with its number; some miss others behind it."""
-    yield from ((1, family(kind, 4, 2)) for kind in (0, 7, FITS - 1))
-    yield 1, family(7, PLACES + 1, 2, (1,))
+    yield from ((1, family(kind, 4, 2)) for kind in (0, KINDS + 1, FITS - 1))
+    yield 1, family(KINDS + 1, PLACES + 1, 2, (1,))
     yield from ((2, family(1, n, k)) for n, k in ((PLACES + 1, 2), (4, PLACES + 1), (FITS - 1, 0)))
-    yield from ((2, f) for f in (family(3, 4, 1), family(6, BRANCHES + 1)))
-    # 2, and 3 and 4
-    yield 2, family(1, 2, PLACES + 1, (1, 1))
+    yield from ((2, f) for f in (family(3, 4, 1), family(6, BRANCHES + 1), family(7, 4, 2)))
+    # 2, and 3; 2, and 3 and 4
+    yield from ((2, f) for f in (family(7, PLACES + 1, 2, (1,)), family(1, 2, PLACES + 1, (1, 1))))
     yield from ((3, family(2, n, 0, counts)) for n, counts in ((3, (1, 1)), (1, (1, 1)), (2, (PLACES, 1))))
     yield 3, family(1, 4, 2, (0,))
     # 3, and 4; 3, and 5
@@ -212,9 +216,9 @@ def refusals():
     yield from refused(name(f), 6, f, (1, 1, 2, 2))
 
 
-def of_a_field(small, large, seed, number, wrong, missed, no_objects):
-    """What is asked of a field of one kind: small families everywhere, large ones, values that the question of that number refuses, on every kind,
-    families that miss others, and bytes that are no object."""
+def of_a_kind(small, large, seed, missed, no_objects, number=None, wrong=()):
+    """What is asked of one kind: small families everywhere, large ones, families that miss a question, and bytes that are no object. Of a field of its
+    own also values that the question of that number refuses, on every kind."""
     yield from everywhere(small)
     yield from far_and_half_way(large, in_no_order(seed))
     for f, x in wrong:
@@ -226,13 +230,19 @@ def of_a_field(small, large, seed, number, wrong, missed, no_objects):
 
 
 def floors():
-    return of_a_field(SMALL_FLOORS, LARGE_FLOORS, 4, 10, WRONG_FLOORS, FLOORS_MISSED, BELOW_FLOOR)
+    return of_a_kind(SMALL_FLOORS, LARGE_FLOORS, 4, FLOORS_MISSED, BELOW_FLOOR, 10, WRONG_FLOORS)
 
 
 def editions():
     # edition 1 of the others is like those of `large_families`
     large = [f for f in LARGE_EDITIONS if f.edition == 2 or (f.n, f.k) == (80, 75)]
-    return of_a_field(SMALL_EDITIONS, large, 5, 11, WRONG_EDITIONS, EDITIONS_MISSED, NO_PARTITIONS)
+    return of_a_kind(SMALL_EDITIONS, large, 5, EDITIONS_MISSED, NO_PARTITIONS, 11, WRONG_EDITIONS)
+
+
+def derangements():
+    # families of at most 24 objects go everywhere
+    small = [f for f in SMALL_DERANGEMENTS if count(f) <= 24]
+    return of_a_kind(small, [family(7, 5), *LARGE_DERANGEMENTS], 6, DERANGEMENTS_MISSED, NO_DERANGEMENTS)
 
 
 def main():
@@ -243,6 +253,7 @@ def main():
         "refusals": refusals,
         "floors": floors,
         "editions": editions,
+        "derangements": derangements,
     }
     write_program("test_jumps", made)
 

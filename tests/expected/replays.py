@@ -4,17 +4,23 @@ crates/test_replay/src/main.rt has the form of a case. The library isn't run: an
 marker" of paper 01, on the listings of families.py. That a list that doesn't fit its buffers changes nothing is docs/DECISIONS.md's.
 
     python3 tests/expected/replays.py"""
-from families import BRANCHES, PLACES, Filtered, Ranks, family, full_name, is_object, length, name, not_allowed, refusal
+from families import BRANCHES, KINDS, PLACES, Filtered, Ranks, family, full_name, is_object, length, name, not_allowed, refusal
 from samples import (
     BELOW_FLOOR,
+    BEYOND_DERANGEMENTS,
     BEYOND_EDITIONS,
+    DERANGEMENTS_MISSED,
     EDITIONS_MISSED,
     FLOORS_MISSED,
+    LARGE_DERANGEMENTS,
     LARGE_EDITIONS,
     LARGE_FLOORS,
     LARGEST,
+    NO_DERANGEMENTS,
     NO_PARTITIONS,
+    OTHER_LENGTHS,
     SAMPLES,
+    SMALL_DERANGEMENTS,
     SMALL_EDITIONS,
     SMALL_FLOORS,
     WRONG_EDITIONS,
@@ -138,12 +144,13 @@ def refusals():
     up = lambda n: range(1, n + 1)
     cases = [
         (1, "", family(0, 4, 2), up(2)),
-        (1, "", family(7, 4, 2), up(2)),
+        (1, "", family(KINDS + 1, 4, 2), up(2)),
         (1, "", family(LARGEST, 4, 2), up(2)),
         (2, "", family(1, PLACES + 1, 2), up(2)),
         (2, "", family(1, 4, PLACES + 1), up(2)),
         (2, "", family(3, 4, 1), up(4)),
         (2, "", family(6, BRANCHES + 1), up(PLACES)),
+        (2, "", family(7, 4, 2), up(2)),
         (3, " with n 3", family(2, 3, 0, (1, 1)), up(2)),
         (3, "", family(2, 2, 0, (PLACES, 1)), up(2)),
         (3, " with a count", family(1, 4, 2, (0,)), up(2)),
@@ -197,15 +204,17 @@ def misfits():
         ("no bytes, all fit", [1, 3, 4], [0, 0, 0], empty, [], 3, 0),
         ("no bytes, a trail", [1, 3, 4], [0, 0, 0], empty, [], 3, 1),
         ("no bytes, a trail as long as the calls", [1, 3, 4], [0, 0, 0], empty, [], 3, 3),
-        ("no kind, all fit", [1, 3, 4], [0, 0, 0], family(7, 4, 2), x, 3, 6),
-        ("no kind, code 6", [1, 3, 6], [0, 0, 0], family(7, 4, 2), x, 3, 6),
+        ("no kind, all fit", [1, 3, 4], [0, 0, 0], family(KINDS + 1, 4, 2), x, 3, 6),
+        ("no kind, code 6", [1, 3, 6], [0, 0, 0], family(KINDS + 1, 4, 2), x, 3, 6),
+        ("k beside kind 7, all fit", [1, 3, 4], [0, 0, 0], family(7, 4, 2), x, 3, 6),
+        ("k beside kind 7, code 6", [1, 3, 6], [0, 0, 0], family(7, 4, 2), x, 3, 6),
     ]
     return [Case(*c) for c in cases]
 
 
-def of_a_field(small, large, number, wrong, missed, no_objects):
-    """What is asked of a field of one kind: small families everywhere, large ones, values that the question of that number refuses, on every kind,
-    families that miss others, and bytes that are no object."""
+def of_a_kind(small, large, missed, no_objects, number=None, wrong=()):
+    """What is asked of one kind: small families everywhere, large ones, families that miss a question, and bytes that are no object. Of a field of its
+    own also values that the question of that number refuses, on every kind."""
     for f in small:
         yield from everywhere(f)
     for f in large:
@@ -221,11 +230,17 @@ def of_a_field(small, large, number, wrong, missed, no_objects):
 
 
 def floors():
-    return of_a_field(SMALL_FLOORS, LARGE_FLOORS, 10, WRONG_FLOORS, FLOORS_MISSED, BELOW_FLOOR)
+    return of_a_kind(SMALL_FLOORS, LARGE_FLOORS, FLOORS_MISSED, BELOW_FLOOR, 10, WRONG_FLOORS)
 
 
 def editions():
-    return of_a_field(SMALL_EDITIONS, LARGE_EDITIONS + BEYOND_EDITIONS, 11, WRONG_EDITIONS, EDITIONS_MISSED, NO_PARTITIONS)
+    return of_a_kind(SMALL_EDITIONS, LARGE_EDITIONS + BEYOND_EDITIONS, EDITIONS_MISSED, NO_PARTITIONS, 11, WRONG_EDITIONS)
+
+
+def derangements():
+    yield from of_a_kind(SMALL_DERANGEMENTS, LARGE_DERANGEMENTS + BEYOND_DERANGEMENTS, DERANGEMENTS_MISSED, NO_DERANGEMENTS)
+    for f, x in OTHER_LENGTHS:
+        yield fitting(f"question 6, {name(f)} on {len(x)} bytes", EVERY_CALL, f, x)
 
 
 def main():
@@ -236,6 +251,7 @@ def main():
         "misfits": misfits,
         "floors": floors,
         "editions": editions,
+        "derangements": derangements,
     }
     write_program("test_replay", made)
 

@@ -1,9 +1,9 @@
 """Families that several of the scripts beside try."""
-from families import EDITIONS, FITS, FLOORS, PLACES, Ranks, family, length, refusal
+from families import EDITIONS, FITS, FLOORS, KINDS, PLACES, Ranks, family, length, refusal
 
 LARGEST = FITS - 1
 # one of each kind
-SAMPLES = family(1, 4, 2), family(2, 2, 0, (2, 1)), family(3, 3), family(4, 4, 2), family(5, 7, 3), family(6, 3)
+SAMPLES = family(1, 4, 2), family(2, 2, 0, (2, 1)), family(3, 3), family(4, 4, 2), family(5, 7, 3), family(6, 3), family(7, 4)
 
 # kind 5 with a floor: the empty split, which has no part below any floor; one object; several
 SMALL_FLOORS = tuple(family(5, n, k, floor=floor) for n, k, floor in ((0, 0, FLOORS), (7, 2, 3), (11, 3, 2)))
@@ -21,8 +21,9 @@ WRONG_FLOORS = [
 FLOORS_MISSED = (
     # a number that is no kind, whatever the floor
     (1, family(0, 4, 2, floor=0)),
-    (1, family(7, 7, 3, floor=2)),
+    (1, family(KINDS + 1, 7, 3, floor=2)),
     # 2, and 10
+    (2, family(7, 7, 3, floor=2)),
     (2, family(5, PLACES + 1, 3, floor=0)),
     (2, family(5, 7, PLACES + 1, floor=FLOORS + 1)),
     (2, family(3, 4, 1, floor=2)),
@@ -36,6 +37,9 @@ FLOORS_MISSED = (
     (10, family(5, 0, 1, floor=0)),
     (10, family(5, PLACES, PLACES, floor=LARGEST)),
     (10, family(3, 21, floor=2)),
+    (10, family(7, 4, 0, (1,), floor=2)),
+    (10, family(7, 1, floor=2)),
+    (10, family(7, 21, floor=2)),
     # 3 alone; 3, and 4
     (3, family(5, 9, 3, (0,), floor=2)),
     (3, family(5, 9, 5, (0,), floor=2)),
@@ -64,8 +68,9 @@ WRONG_EDITIONS = [
 EDITIONS_MISSED = (
     # a number that is no kind, whatever the edition
     (1, family(0, 4, 2, edition=0)),
-    (1, family(7, 4, 2, edition=2)),
+    (1, family(KINDS + 1, 4, 2, edition=2)),
     # 2, and 11; 2 alone
+    (2, family(7, 4, 2, edition=2)),
     (2, family(4, PLACES + 1, 2, edition=0)),
     (2, family(4, 4, PLACES + 1, edition=EDITIONS + 1)),
     (2, family(6, 3, 1, edition=2)),
@@ -87,6 +92,9 @@ EDITIONS_MISSED = (
     (11, family(5, 3, 4, edition=2)),
     (11, family(4, 66, 2, edition=0)),
     (11, family(3, 21, edition=2)),
+    (11, family(7, 4, 0, (1,), edition=2)),
+    (11, family(7, 1, edition=2)),
+    (11, family(7, 21, edition=2)),
     # 3 alone; 3, and 4
     (3, family(4, 4, 2, (0,), edition=2)),
     (3, family(4, 3, 4, (0,), edition=2)),
@@ -99,8 +107,39 @@ EDITIONS_MISSED = (
 )
 
 
+# kind 7: the empty string; one object; several. With ranks, and without.
+SMALL_DERANGEMENTS = tuple(family(7, n) for n in (0, 2, 3, 4, 5))
+LARGE_DERANGEMENTS = family(7, 8), family(7, 20)
+BEYOND_DERANGEMENTS = family(7, 21), family(7, PLACES)
+# what is no derangement: the first, an inner, the last model in its place, all of them; a model twice, one that isn't there, 0
+KEPT_PLACES = (1, 3, 4, 2), (4, 2, 1, 3), (2, 3, 1, 4), (1, 2, 3, 4)
+NO_PERMUTATIONS = (2, 1, 2, 3), (2, 1, 4, 5), (2, 1, 4, 0)
+NO_DERANGEMENTS = [(family(7, 4), x) for x in KEPT_PLACES + NO_PERMUTATIONS]
+# derangements of other lengths
+OTHER_LENGTHS = (family(7, 4), ()), (family(7, 4), (2, 3, 1)), (family(7, 4), (2, 3, 4, 5, 1)), (family(7, 0), (2, 1))
+
+# families of kind 7 that miss a question, or several: with the number of the first
+DERANGEMENTS_MISSED = (
+    (2, family(7, 4, 1)),
+    (2, family(7, 0, 1)),
+    (2, family(7, PLACES + 1)),
+    (2, family(7, LARGEST)),
+    # 2, and 3; 2, and 4
+    (2, family(7, 4, 4, (1, 1, 1, 1))),
+    (2, family(7, 1, 1)),
+    # 3 alone, with counts that kind 2 could have; 3, and 4; 3, and 5
+    (3, family(7, 4, 0, (1, 1, 1, 1))),
+    (3, family(7, 4, 0, (0,))),
+    (3, family(7, 1, 0, (1,))),
+    (3, family(7, 21, 0, (0,))),
+    # one model, which keeps its place
+    (4, family(7, 1)),
+    (5, family(7, 21)),
+)
+
+
 def some_bytes(f):
     """An object where there is one, else 1, 2, .. as many as the table says."""
     if refusal("FIRST", f, ()) in (0, 6):
         return Ranks(f).object(0)
-    return tuple(range(1, 1 + (min(length(f), PLACES) if 1 <= f.kind <= 6 else f.k)))
+    return tuple(range(1, 1 + (min(length(f), PLACES) if 1 <= f.kind <= KINDS else f.k)))

@@ -7,17 +7,22 @@ number 0, what stands behind the bytes kept stays, and a run goes as many steps 
     python3 tests/expected/walks.py"""
 from functools import cache
 
-from families import BRANCHES, FITS, PLACES, Filtered, Ranks, count, family, full_name, length, name, refusal
+from families import BRANCHES, FITS, KINDS, PLACES, Filtered, Ranks, count, family, full_name, length, name, refusal
 from samples import (
     BELOW_FLOOR,
+    BEYOND_DERANGEMENTS,
     BEYOND_EDITIONS,
+    DERANGEMENTS_MISSED,
     EDITIONS_MISSED,
     FLOORS_MISSED,
+    LARGE_DERANGEMENTS,
     LARGE_EDITIONS,
     LARGE_FLOORS,
     LARGEST,
+    NO_DERANGEMENTS,
     NO_PARTITIONS,
     SAMPLES,
+    SMALL_DERANGEMENTS,
     SMALL_EDITIONS,
     SMALL_FLOORS,
     WRONG_EDITIONS,
@@ -195,7 +200,7 @@ def numbers():
         legs = alike(f, [ON] * 3, [BACK] * 9, [ON] * 8)
         yield Case(f"{name(f)}, number {number} at 5", f, marked(listing(f).object(5)), legs, (3, number))
     # the empty object
-    for f in (family(1, 3, 0), family(2, 0), family(2, 2, 0, (0, 0)), family(3, 0), family(4, 0, 0), family(5, 0, 0), family(6, 0)):
+    for f in (family(1, 3, 0), family(2, 0), family(2, 2, 0, (0, 0)), family(3, 0), family(4, 0, 0), family(5, 0, 0), family(6, 0), family(7, 0)):
         for number in (0, 1, LARGEST):
             yield Case(f"{name(f)}, number {number}", f, marked(()), alike(f, [ON, BACK]), (0, number))
 
@@ -221,23 +226,25 @@ def no_objects():
 
 
 def made_up():
-    for cases in (numbers(), lengths(), no_objects()):
-        yield from cases
+    yield from numbers()
+    yield from lengths()
 
 
 # families that miss each question 1 to 5, with its number; some miss others behind it
 MISSING = [
     (1, family(0, 4, 2)),
-    (1, family(7, 4, 2)),
+    (1, family(KINDS + 1, 4, 2)),
     (1, family(LARGEST, 4, 2)),
     # 1, and 2 and 3
-    (1, family(7, PLACES + 1, 2, (1,))),
+    (1, family(KINDS + 1, PLACES + 1, 2, (1,))),
     (2, family(1, PLACES + 1, 2)),
     (2, family(1, 4, PLACES + 1)),
     (2, family(1, LARGEST, 0)),
     (2, family(3, 4, 1)),
     (2, family(6, BRANCHES + 1)),
-    # 2, and 3 and 4
+    (2, family(7, 4, 2)),
+    # 2, and 3; 2, and 3 and 4
+    (2, family(7, PLACES + 1, 2, (1,))),
     (2, family(1, 2, PLACES + 1, (1, 1))),
     (3, family(2, 3, 0, (1, 1))),
     (3, family(2, 1, 0, (1, 1))),
@@ -258,7 +265,8 @@ MISSING = [
 
 
 def refusals():
-    """Questions 1 to 5 come before 6, 7 and 8: with lengths and numbers of which some are missed too."""
+    """Question 7 comes before 8; questions 1 to 5 come before 6, 7 and 8: with lengths and numbers of which some are missed too."""
+    yield from no_objects()
     for q, f in MISSING:
         x = some_bytes(f)
         assert refusal("RANK", f, x) == q
@@ -358,9 +366,9 @@ def refused(q, f, x):
     yield Case(f"{label}, made up", f, x, alike(f, [ON, BACK]), (len(x), 0))
 
 
-def of_a_field(small, made_up, large, number, wrong, missed, no_objects):
-    """What is asked of a field of one kind: small families everywhere, one with numbers that no start gives, large ones, values that the question
-    of that number refuses, on every kind, families that miss others, and bytes that are no object."""
+def of_a_kind(small, made_up, large, missed, no_objects, number=None, wrong=()):
+    """What is asked of one kind: small families everywhere, one with numbers that no start gives, large ones, families that miss a question, and bytes
+    that are no object. Of a field of its own also values that the question of that number refuses, on every kind."""
     for f in small:
         yield from everywhere(f)
     yield from wrong_numbers(made_up)
@@ -375,12 +383,21 @@ def of_a_field(small, made_up, large, number, wrong, missed, no_objects):
 
 
 def floors():
-    return of_a_field(SMALL_FLOORS, family(5, 9, 3, floor=2), LARGE_FLOORS, 10, WRONG_FLOORS, FLOORS_MISSED, BELOW_FLOOR)
+    return of_a_kind(SMALL_FLOORS, family(5, 9, 3, floor=2), LARGE_FLOORS, FLOORS_MISSED, BELOW_FLOOR, 10, WRONG_FLOORS)
 
 
 def editions():
     large = LARGE_EDITIONS + BEYOND_EDITIONS
-    return of_a_field(SMALL_EDITIONS, family(4, 5, 3, edition=2), large, 11, WRONG_EDITIONS, EDITIONS_MISSED, NO_PARTITIONS)
+    return of_a_kind(SMALL_EDITIONS, family(4, 5, 3, edition=2), large, EDITIONS_MISSED, NO_PARTITIONS, 11, WRONG_EDITIONS)
+
+
+def derangements():
+    yield from of_a_kind(SMALL_DERANGEMENTS, family(7, 5), LARGE_DERANGEMENTS + BEYOND_DERANGEMENTS, DERANGEMENTS_MISSED, NO_DERANGEMENTS)
+    # far from both ends and back
+    f = family(7, 20)
+    on, back = [ON] * MOST, [BACK] * MOST
+    yield Case(f"{name(f)}, far on and back", f, Ranks(f).object(0), alike(f, on, on, back, back, [BACK]))
+    yield Case(f"{name(f)}, far back and on", f, Ranks(f).object(count(f) - 1), alike(f, back, back, on, on, [ON]))
 
 
 def main():
@@ -392,6 +409,7 @@ def main():
         "large_families": large_families,
         "floors": floors,
         "editions": editions,
+        "derangements": derangements,
     }
     write_program("test_walks", made)
 

@@ -26,11 +26,11 @@ anagram-cases cs x o = let both = and-true (eqb (length x) (total cs)) (tallies 
 
 -- one more letter before a word
 
-occurrences-same : (b a : ℕ) (x : Bytes) → b ≡ a → occurrences b (a ∷ x) ≡ suc (occurrences b x)
+pub occurrences-same : (b a : ℕ) (x : Bytes) → b ≡ a → occurrences b (a ∷ x) ≡ suc (occurrences b x)
 unfolding occurrences
 occurrences-same b a x e = rw (eq-eqb b a e, one-add)
 
-occurrences-other : (b a : ℕ) (x : Bytes) → (b ≡ a → ⊥) → occurrences b (a ∷ x) ≡ occurrences b x
+pub occurrences-other : (b a : ℕ) (x : Bytes) → (b ≡ a → ⊥) → occurrences b (a ∷ x) ≡ occurrences b x
 unfolding occurrences
 occurrences-other b a x n = rw (ne-eqb b a n, zero-add)
 

@@ -1,11 +1,12 @@
 // The answers about the counts of paper 01's families: each exact, or too large. They answer any arguments: those outside the limits of the
-// paper's table by a case of their own. `catalan_that_fits`, for ranks, answers a plain number, and 0 where it doesn't fit.
+// paper's table by a case of their own. `catalan_that_fits` and `derangement_that_fits`, for ranks, answer a plain number, and 0 where it
+// doesn't fit.
 ghost use mathlib.Core.Path.{_≡_};
 ghost use mathlib.Core.Bool.{_&&_, cond};
 ghost use lib.Dec.{leb};
 ghost use Rattle.basics.specs.Limits.{places, branches, floors};
 ghost use Rattle.basics.specs.Sums.{total};
-ghost use Rattle.numbers.specs.Numbers.{choose, factorialOf, multinomialOf, stirlingOf, partsFrom, catalanOf};
+ghost use Rattle.numbers.specs.Numbers.{choose, factorialOf, multinomialOf, stirlingOf, partsFrom, catalanOf, derangementsOf};
 ghost use Rattle.counting.specs.declared.Count.the-variants.{Outside};
 ghost use Rattle.counting.specs.Answers.{fits, ifFits};
 
@@ -130,4 +131,24 @@ pub fn catalan_that_fits(n: u64) -> u64
     ensures { λ r. ⌜ r ≡ ifFits (catalanOf n) ⌝ }
 {
     short::catalan(n)
+}
+
+// Kind 7: derangements of n.
+pub fn derangement(n: u64) -> Count
+    ensures { λ r. ⌜ r ≡ cond (leb n places) (fits (derangementsOf n)) Outside ⌝ }
+{
+    if PLACES < n {
+        return Count::Outside;
+    }
+    if n <= 20 {
+        return Count::Exactly(short::derangement(n));
+    }
+    Count::TooLarge
+}
+
+// The same number where it fits, else 0.
+pub fn derangement_that_fits(n: u64) -> u64
+    ensures { λ r. ⌜ r ≡ ifFits (derangementsOf n) ⌝ }
+{
+    short::derangement(n)
 }

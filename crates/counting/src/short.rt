@@ -1,7 +1,7 @@
-// The two counts of which only few are below 2^64. A match of literals is one read from memory, where a const would be written out at each use.
+// The three counts of which only few are below 2^64. A match of literals is one read from memory, where a const would be written out at each use.
 ghost use mathlib.Core.Path.{_≡_};
 ghost use Prim.Native.Nat.{_≤_};
-ghost use Rattle.numbers.specs.Numbers.{factorialOf, catalanOf};
+ghost use Rattle.numbers.specs.Numbers.{factorialOf, catalanOf, derangementsOf};
 ghost use Rattle.counting.specs.Answers.{ifFits};
 
 // n!, up to the last below 2^64.
@@ -77,6 +77,36 @@ pub fn catalan(n: u64) -> u64
         34 => 812944042149730764,
         35 => 3116285494907301262,
         36 => 11959798385860453492,
+        _ => 0,
+    }
+}
+
+// The derangements of n, up to the last number below 2^64, and 0 beyond it.
+pub fn derangement(n: u64) -> u64
+    ensures { λ r. ⌜ r ≡ ifFits (derangementsOf n) ⌝ }
+{
+    match n {
+        0 => 1,
+        1 => 0,
+        2 => 1,
+        3 => 2,
+        4 => 9,
+        5 => 44,
+        6 => 265,
+        7 => 1854,
+        8 => 14833,
+        9 => 133496,
+        10 => 1334961,
+        11 => 14684570,
+        12 => 176214841,
+        13 => 2290792932,
+        14 => 32071101049,
+        15 => 481066515734,
+        16 => 7697064251745,
+        17 => 130850092279664,
+        18 => 2355301661033953,
+        19 => 44750731559645106,
+        20 => 895014631192902121,
         _ => 0,
     }
 }

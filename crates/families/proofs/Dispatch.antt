@@ -1,14 +1,14 @@
 -- What a call knows when it hands a family to its kind: the family's listing, order, objects and count as the kind's row says them.
 -- Assumes nothing.
 use mathlib.Core.Path.{_≡_, refl, sym, _∙_, subst}
-use mathlib.Core.Bool.{Bool, true, _&&_, _||_}
+use mathlib.Core.Bool.{Bool, true, not, _&&_, _||_}
 use mathlib.Core.Logic.{⊎-elim}
 use Prim.Native.Nat.{ℕ, zero, suc, _*_, _≤_, _<_}
 use native.Mathlib.Nat.{zero-mul, suc-mul}
 use native.Mathlib.Omega.{arith}
 use lib.Dec.{leb, ltb, eqb}
 use lib.ListN.{length, getD}
-use borrow.Author.Tests.{leb-true, ltb-true, eqb-true, ne-eqb, lt-ltb, lt-leb}
+use borrow.Author.Tests.{leb-true, ltb-true, eqb-true, eqb-false, ne-eqb, not-true, lt-ltb, lt-leb}
 use Rattle.basics.specs.Limits.{places, longestObject}
 use Rattle.basics.specs.Sums.{total}
 use Rattle.basics.proofs.Bools.{and-true, or-cases}
@@ -111,7 +111,8 @@ bounds-at (suc (suc (suc zero))) f b low high = rw (zero-most (f .k))
 bounds-at (suc (suc (suc (suc zero)))) f b low high = refl
 bounds-at (suc (suc (suc (suc (suc zero))))) f b low high = refl
 bounds-at (suc (suc (suc (suc (suc (suc zero)))))) f b low high = rw (zero-most (f .k))
-bounds-at (suc (suc (suc (suc (suc (suc (suc kind))))))) f b low high = absurd (omega arith)
+bounds-at (suc (suc (suc (suc (suc (suc (suc zero))))))) f b low high = rw (zero-most (f .k))
+bounds-at (suc (suc (suc (suc (suc (suc (suc (suc kind)))))))) f b low high = absurd (omega arith)
 
 pub two-limits : (f : Family) (b : Lent) → isKind f ≡ true → inTable f b ≡ (leb (f .n) (mostN (f .kind)) && leb (f .k) (mostK (f .kind)))
 unfolding isKind inTable row
@@ -134,6 +135,10 @@ pub shared : (n m k : ℕ) → (leb m n && (ltb 0 k || eqb n 0)) ≡ true → (m
 shared n m k e =
     let p = and-true (leb m n) (ltb 0 k || eqb n 0) e in
     (leb-true m n (p .0), ⊎-elim (λ w z. omega (arith, ltb-true 0 k w)) (λ w z. eqb-true n 0 w) (or-cases (ltb 0 k) (eqb n 0) (p .1)))
+
+-- "n = 1 has none"
+pub other-than : (n m : ℕ) → not (eqb n m) ≡ true → n ≡ m → ⊥
+other-than n m e = eqb-false n m (not-true (eqb n m) e)
 
 -- k parts of some size have a sum, unless there are none
 pub some-parts : (k f : ℕ) → 1 ≤ f → ltb 0 (k * f) ≡ ltb 0 k

@@ -22,7 +22,8 @@ use Rattle.families.proofs.RowsHold.{with-counts}
 use Rattle.families.proofs.FamilyFacts.{listed, lawful, not-allowed, has-object, fitting, floor-positive}
 use Rattle.families.proofs.Going.{empty}
 
--- "With n = 0 kinds 2, 3 and 6 have one object, the empty string. So have kind 1 with k = 0 and kinds 4 and 5 with n = k = 0."
+-- "With n = 0 kinds 2, 3 and 6 have one object, the empty string. So have kind 1 with k = 0 and kinds 4 and 5 with n = k = 0." And of kind 7 "the empty
+-- string is the one object for n = 0"
 pub data EmptyAlone (f : Family) : Type 0 where
   subsets : f .kind ≡ 1 → f .k ≡ 0 → EmptyAlone f
   anagrams : f .kind ≡ 2 → f .n ≡ 0 → EmptyAlone f
@@ -30,8 +31,10 @@ pub data EmptyAlone (f : Family) : Type 0 where
   set-partitions : f .kind ≡ 4 → f .n ≡ 0 → f .k ≡ 0 → EmptyAlone f
   integer-partitions : f .kind ≡ 5 → f .n ≡ 0 → f .k ≡ 0 → EmptyAlone f
   dyck-words : f .kind ≡ 6 → f .n ≡ 0 → EmptyAlone f
+  derangements : f .kind ≡ 7 → f .n ≡ 0 → EmptyAlone f
 
--- "Kinds 1, 4 and 5 have no object when k > n; kinds 4 and 5 have none when k = 0 < n." Nor has kind 5 when k times the floor is beyond n.
+-- "Kinds 1, 4 and 5 have no object when k > n; kinds 4 and 5 have none when k = 0 < n." Nor has kind 5 when k times the floor is beyond n,
+-- nor kind 7 with n = 1.
 pub data NoObject (f : Family) : Type 0 where
   subsets : f .kind ≡ 1 → f .n < f .k → NoObject f
   set-partitions : f .kind ≡ 4 → f .n < f .k → NoObject f
@@ -39,6 +42,7 @@ pub data NoObject (f : Family) : Type 0 where
   set-partitions-none : f .kind ≡ 4 → f .k ≡ 0 → 0 < f .n → NoObject f
   integer-partitions-none : f .kind ≡ 5 → f .k ≡ 0 → 0 < f .n → NoObject f
   integer-partitions-floor : f .kind ≡ 5 → f .n < f .k * f .floor → NoObject f
+  derangements : f .kind ≡ 7 → f .n ≡ 1 → NoObject f
 
 -- what the row says of them
 
@@ -62,6 +66,7 @@ said-empty f b fits (permutations e n) = record { size = rw (e, n); has = rw e }
 said-empty f b fits (set-partitions e n k) = record { size = rw (e, n); has = rw (e, n, k) }
 said-empty f b fits (integer-partitions e n k) = record { size = rw (e, k); has = rw (e, n, k, zero-mul (f .floor)) }
 said-empty f b fits (dyck-words e n) = record { size = rw (e, n); has = rw e }
+said-empty f b fits (derangements e n) = record { size = rw (e, n); has = rw (e, n) }
 
 -- of strings without a byte there is one
 
@@ -94,6 +99,7 @@ said-none f b a (integer-partitions e h) =
 said-none f b a (set-partitions-none e k h) = rw (e, k, le-leb 0 (f .n) (omega arith), ne-eqb (f .n) 0 (λ n. omega arith))
 said-none f b a (integer-partitions-none e k h) = rw (e, k, zero-mul (f .floor), le-leb 0 (f .n) (omega arith), ne-eqb (f .n) 0 (λ n. omega arith))
 said-none f b a (integer-partitions-floor e h) = rw (e, lt-leb (f .k * f .floor) (f .n) h)
+said-none f b a (derangements e h) = rw (e, h)
 
 pub none-at-all : (f : Family) (b : Lent) → NoObject f → listing f b ≡ []
 unfolding countOf

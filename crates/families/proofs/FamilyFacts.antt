@@ -75,7 +75,7 @@ none-within (suc m) x h low high =
       | no more ↦ h .1 (omega arith)
     ]
 
--- "Is the kind 1 to 6?": a kind has an arm
+-- "Question 1 now allows 1 to 7": a kind has an arm
 pub numbered : (f : Family) → isKind f ≡ true → NoneOf lastKind (f .kind) → ⊥
 unfolding isKind
 numbered f e h =

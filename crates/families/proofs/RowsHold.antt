@@ -18,6 +18,7 @@ use Rattle.set_partitions.specs.KeyOrder.{editionOf}
 use Rattle.set_partitions.proofs.Laws as set-partition
 use Rattle.integer_partitions.proofs.Laws as integer-partition
 use Rattle.dyck_words.proofs.Laws as dyck-word
+use Rattle.derangements.proofs.Laws as derangement
 use Rattle.families.specs.declared.Family.{Family}
 use Rattle.families.specs.Table.{Lent, noCounts, noRow, table}
 use Rattle.families.specs.Families.{row, listsFit}
@@ -63,7 +64,8 @@ lawful-rows f b =
     (more (anagram.permutation-laws (f .n) (f .k) (noCounts b)) (λ h. refl)
     (more (set-partition.laws (editionOf (f .edition)) (f .n) (f .k) (noCounts b)) (λ h. refl)
     (more (integer-partition.laws (f .floor) (f .n) (f .k) (noCounts b)) (λ h. refl)
-    (more (dyck-word.laws (f .n) (f .k) (noCounts b)) (λ h. refl) none))))))
+    (more (dyck-word.laws (f .n) (f .k) (noCounts b)) (λ h. refl)
+    (more (derangement.laws (f .n) (f .k) (noCounts b)) (λ h. refl) none)))))))
 
 laws-at : {b : Lent} {kind : ℕ} {l : List Row} → Rows b kind l → (i : ℕ) → RowLaws (getD l i (noRow b))
 laws-at {b} none i = no-row-laws b

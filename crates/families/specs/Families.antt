@@ -17,7 +17,7 @@ use Rattle.families.specs.Table.{Lent, noRow, table, lastKind}
 unfoldable pub row : Family → Lent → Row
 row f b = getD (table f b) (f .kind) (noRow b)
 
--- question 1: "Is the kind 1 to 6?" (SCOPE 4.1)
+-- question 1: "Question 1 now allows 1 to 7" (SCOPE 4.1)
 unfoldable pub isKind : Family → Bool
 isKind f = leb 1 (f .kind) && leb (f .kind) lastKind
 

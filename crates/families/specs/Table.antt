@@ -1,13 +1,13 @@
 -- Paper 01's table of families (SCOPE 1): what is lent beside a family, and a row for each kind, over the family and everything lent.
 -- Assumes nothing.
-use mathlib.Core.Bool.{Bool, true, false, _&&_, _||_}
+use mathlib.Core.Bool.{Bool, true, false, not, _&&_, _||_}
 use mathlib.Core.List.{List, [], _∷_}
 use Prim.Native.Nat.{ℕ, _*_}
 use lib.Dec.{leb, ltb, eqb}
 use lib.ListN.{length, getD}
 use Rattle.basics.specs.Limits.{places, branches}
 use Rattle.basics.specs.Sums.{total}
-use Rattle.numbers.specs.Numbers.{choose, multinomialOf, factorialOf, stirlingOf, partsFrom, catalanOf}
+use Rattle.numbers.specs.Numbers.{choose, multinomialOf, factorialOf, stirlingOf, partsFrom, catalanOf, derangementsOf}
 use Rattle.listings.specs.Rows.{Row}
 use Rattle.subsets.specs.Objects.{isSubset, subsetBefore}
 use Rattle.subsets.specs.Listing.{subsets}
@@ -22,6 +22,8 @@ use Rattle.integer_partitions.specs.Listing.{integerPartitions}
 use Rattle.dyck_words.specs.Objects.{isDyckWord}
 use Rattle.dyck_words.specs.Trees.{dyckBefore}
 use Rattle.dyck_words.specs.Listing.{dyckWords}
+use Rattle.derangements.specs.Objects.{isDerangement, derangementBefore}
+use Rattle.derangements.specs.Listing.{derangements}
 use Rattle.families.specs.declared.Family.{Family}
 
 -- everything lent beside a family, a field a list: "a lent list of letter counts, one byte a letter, filled only for kind 2" (SCOPE 1.a)
@@ -126,6 +128,19 @@ dyckWordRow f b = record {
   hasObject = true;
 }
 
+-- 7 nobody on last week's hook: "n from 0 to 80, k = 0", "a permutation with f(i) never i" (SCOPE 1.7); "n = 1 has none" (SCOPE 1.b)
+abbrev pub derangementRow : Family → Lent → Row
+derangementRow f b = record {
+  inBounds = leb (f .n) places && eqb (f .k) 0;
+  listsFit = noCounts b;
+  objectLength = f .n;
+  isObject = isDerangement (f .n);
+  comesBefore = derangementBefore (f .n);
+  listing = derangements (f .n);
+  number = derangementsOf (f .n);
+  hasObject = not (eqb (f .n) 1);
+}
+
 -- a number that is no kind, which question 1 refuses (SCOPE 4.1)
 unfoldable pub noRow : Lent → Row
 noRow b = record {
@@ -139,7 +154,7 @@ noRow b = record {
   hasObject = false;
 }
 
--- the table: each kind's row stands at its number, from 1 on (SCOPE 1.1 to 1.6)
+-- the table: each kind's row stands at its number, from 1 on (SCOPE 1.1 to 1.7)
 abbrev pub table : Family → Lent → List Row
 table f b =
     noRow b
@@ -149,8 +164,9 @@ table f b =
     ∷ setPartitionRow f b
     ∷ integerPartitionRow f b
     ∷ dyckWordRow f b
+    ∷ derangementRow f b
     ∷ []
 
 -- the last kind of the table (SCOPE 4.1)
 abbrev pub lastKind : ℕ
-lastKind = 6
+lastKind = 7

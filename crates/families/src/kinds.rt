@@ -31,6 +31,7 @@ pub fn is_object<'a>(f: Family, lists: Lists<'a>, object: &[u8]) -> bool
         4 => set_partitions::is_object(n, k, object),
         5 => integer_partitions::is_object(floor, n, k, object),
         6 => dyck_words::is_object(n, object),
+        7 => derangements::is_object(n, object),
         _ => false,
     }
 }
@@ -54,6 +55,7 @@ pub fn first<'a>(f: Family, lists: Lists<'a>, object: &mut [u8])
         4 => set_partitions::first(edition, k, object),
         5 => integer_partitions::first(floor, n, object),
         6 => dyck_words::first(n, object),
+        7 => derangements::first(object),
         _ => {}
     }
 }
@@ -77,6 +79,7 @@ pub fn last<'a>(f: Family, lists: Lists<'a>, object: &mut [u8])
         4 => set_partitions::last(edition, k, object),
         5 => integer_partitions::last(floor, n, object),
         6 => dyck_words::last(n, object),
+        7 => derangements::last(object),
         _ => {}
     }
 }
@@ -97,6 +100,7 @@ pub fn next<'a>(f: Family, lists: Lists<'a>, object: &mut [u8]) -> Step
         4 => set_partitions::next(edition, k, object),
         5 => integer_partitions::next(floor, n, object),
         6 => dyck_words::next(n, object),
+        7 => derangements::next(object),
         _ => Step::End,
     }
 }
@@ -117,6 +121,7 @@ pub fn previous<'a>(f: Family, lists: Lists<'a>, object: &mut [u8]) -> Step
         4 => set_partitions::previous(edition, k, object),
         5 => integer_partitions::previous(floor, n, object),
         6 => dyck_words::previous(n, object),
+        7 => derangements::previous(object),
         _ => Step::End,
     }
 }
@@ -139,6 +144,7 @@ pub fn rank<'a>(f: Family, lists: Lists<'a>, object: &[u8]) -> u64
         4 => set_partition_ranks::rank(edition, k, object),
         5 => integer_partitions::rank(floor, n, object),
         6 => dyck_ranks::rank(n, object),
+        7 => derangement_ranks::rank(object),
         _ => 0,
     }
 }
@@ -163,6 +169,7 @@ pub fn unrank<'a>(rank: u64, f: Family, lists: Lists<'a>, object: &mut [u8])
         4 => set_partition_ranks::unrank(rank, edition, k, object),
         5 => integer_partitions::unrank(rank, floor, n, object),
         6 => dyck_ranks::unrank(rank, n, object),
+        7 => derangement_ranks::unrank(rank, object),
         _ => {}
     }
 }

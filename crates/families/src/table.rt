@@ -22,7 +22,7 @@ use basics::sum_to_limit;
 use counting::Count;
 
 // The last kind of the table.
-const LAST_KIND: u64 = 6;
+const LAST_KIND: u64 = 7;
 
 // How a rank stands to a family's count: below it, not below it, or the count is not below 2^64.
 pub enum Size {
@@ -139,6 +139,7 @@ pub fn has_object<'a>(f: Family, lists: Lists<'a>) -> bool
         4 => shared_out(n, k),
         5 => shared_out(n, k * floor),
         6 => true,
+        7 => n != 1,
         _ => false,
     }
 }
@@ -159,6 +160,7 @@ pub fn object_length<'a>(f: Family, lists: Lists<'a>) -> u64
         4 => n,
         5 => k,
         6 => 2 * n,
+        7 => n,
         _ => 0,
     }
 }
@@ -180,6 +182,7 @@ fn count<'a>(f: Family, lists: Lists<'a>) -> Count
         4 => counting::stirling(n, k),
         5 => counting::partitions(floor, n, k),
         6 => counting::catalan(n),
+        7 => counting::derangement(n),
         _ => Count::Exactly(0),
     }
 }

@@ -13,3 +13,5 @@ pub use Rattle.numbers.proofs.Stirlings.{stirling-rule, stirling-corner
 pub use Rattle.numbers.proofs.PartitionLaws.{by-last-part, too-few, shift, floor-shift, next-floor, partitions-rule, partitions-corner, partitions-none, partitions-zero, nothing, no-parts, parts-positive, last-part-le, floor-le, floor-mono}
 -- Catalan's convolution, and that each product in it is at most the whole
 pub use Rattle.numbers.proofs.Catalans.{convolution, product-le, catalan-zero, catalan-positive, catalan-grows, catalan-mono}
+-- the derangements' recursion, that both its terms are at most the whole, and that 1 alone has none
+pub use Rattle.numbers.proofs.Derangements.{derangement-rule, derangement-zero, derangement-one, derangement-grows, derangement-positive, derangement-mono}

@@ -1,6 +1,7 @@
 -- The laws of the counts, of sums and of tables.
 pub mod Binomials
 pub mod Catalans
+pub mod Derangements
 pub mod Factorials
 pub mod Laws
 pub mod Multinomials

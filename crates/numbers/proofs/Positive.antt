@@ -1,7 +1,7 @@
 -- Which counts are positive, as tests of n and k: where there is an object, and where there is none.
 -- Assumes nothing.
 use mathlib.Core.Path.{_≡_, refl, sym}
-use mathlib.Core.Bool.{true, _&&_, _||_}
+use mathlib.Core.Bool.{true, _&&_, _||_, not}
 use mathlib.Core.List.{List}
 use Prim.Native.Nat.{ℕ, zero, suc, _*_, _≤_, _<_}
 use native.Mathlib.Nat.{zero-mul}
@@ -10,8 +10,8 @@ use native.Mathlib.Decide.{decLe}
 use lib.Dec.{leb, ltb, eqb}
 use lib.ListN.{replicate}
 use borrow.Author.Tests.{lt-ltb, le-leb, lt-leb, ne-eqb}
-use Rattle.numbers.specs.Numbers.{choose, multinomialOf, factorialOf, stirlingOf, partsFrom, catalanOf}
-use Rattle.numbers.proofs.Laws.{choose-none, choose-positive, multinomial-positive, multinomial-ones, stirling-corner, stirling-none, stirling-zero, stirling-positive, too-few, nothing, no-parts, parts-positive, catalan-positive}
+use Rattle.numbers.specs.Numbers.{choose, multinomialOf, factorialOf, stirlingOf, partsFrom, catalanOf, derangementsOf}
+use Rattle.numbers.proofs.Laws.{choose-none, choose-positive, multinomial-positive, multinomial-ones, stirling-corner, stirling-none, stirling-zero, stirling-positive, too-few, nothing, no-parts, parts-positive, catalan-positive, derangement-zero, derangement-one, derangement-positive}
 
 -- a number that is positive where n has the least that k asks for and where k is 0 only for n = 0, and 0 elsewhere
 module _ (T : ℕ → ℕ → ℕ) (least : ℕ → ℕ) (nil : least 0 ≡ 0) (above : (n k : ℕ) → n < least k → T n k ≡ 0) (left : (n : ℕ) → 0 < n → T n 0 ≡ 0) (corner : T 0 0 ≡ 1) (inside : (n k : ℕ) → 0 < k → least k ≤ n → 1 ≤ T n k) where
@@ -45,3 +45,8 @@ parts-some f n k = triangle (partsFrom f) (λ j. j * f) (zero-mul f) (too-few f)
 
 pub catalan-some : (n : ℕ) → ltb 0 (catalanOf n) ≡ true
 catalan-some n = lt-ltb 0 (catalanOf n) (catalan-positive n)
+
+pub derangement-some : (n : ℕ) → ltb 0 (derangementsOf n) ≡ not (eqb n 1)
+derangement-some zero = rw derangement-zero
+derangement-some (suc zero) = rw derangement-one
+derangement-some (suc (suc n)) = rw (lt-ltb 0 (derangementsOf (suc (suc n))) (derangement-positive n), ne-eqb (suc (suc n)) 1 (λ e. omega arith))

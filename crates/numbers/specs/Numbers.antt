@@ -60,3 +60,9 @@ catalansDown (suc n) =
 -- kind 6, "as many of each, no prefix with more 0 than 1", n of each (SCOPE 1.6, 6.6)
 unfoldable pub catalanOf : ℕ → ℕ
 catalanOf n = getD (catalansDown n) 0 0
+
+-- kind 7, "f(i) never i": f(n) is one of the n - 1 others, and what is left is a derangement of n - 1 or of n - 2 (SCOPE 1.7, 6.10)
+unfoldable pub derangementsOf : ℕ → ℕ
+derangementsOf zero = 1
+derangementsOf (suc zero) = 0
+derangementsOf (suc (suc n)) = suc n * (derangementsOf (suc n) + derangementsOf n)

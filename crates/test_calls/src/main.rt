@@ -18,12 +18,13 @@
 // and `large_families` (at both edges of 2^64 and at 80 places): objects by rank, counted place by place as Loehr does, a step being the
 // rank one up or down; so there the order rests on the same recursion as our listings. `floors`: kind 5 with floors, small ones the first way,
 // large ones the second, and floors that are refused, on every kind. `editions`: the same of kind 4 in both editions, every family of up to 8
-// models the first way.
+// models the first way. `derangements`: kind 7, families of up to 7 models the first way, and 80 models far from both ends and back.
 //
 // `published` has the worked examples of the sources that concern these orders, beyond the twelve proof cases, with the number of each
-// example, typed from the sources: Loehr's chapter (000) 5.20 to 5.41, Loehr 2019 (004) 3.1 and 3.3, and Wilf (001) 4 (2), whose order is
-// edition 2 and whose numbers are worked out by its rule. Letters a, b, .. are written 1, 2, ..; N is 1 and E is 0. In 5.38 the source prints
-// bdcacbc and then works with the tails accb and ccb, that is with bdcaccb. A list is FIRST, and NEXT of each object that the source lists.
+// example, typed from the sources: Loehr's chapter (000) 5.20 to 5.41, Loehr 2019 (004) 3.1, 3.3 and 3.4, and Wilf (001) 4 (2), whose order is
+// edition 2 and whose numbers are worked out by its rule. So are the answers to exercise 5.96 of 000, which prints none, by the rule of 004 3.4.
+// Letters a, b, .. are written 1, 2, ..; N is 1 and E is 0. In 5.38 the source prints bdcacbc and then works with the tails accb and ccb, that is
+// with bdcaccb. A list is FIRST, and NEXT of each object that the source lists.
 ghost use Prim.Native.Nat.{_≤_};
 ghost use lib.ListN.{length};
 

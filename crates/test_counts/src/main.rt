@@ -4,8 +4,8 @@
 // and k, and only where it isn't 1.
 //
 // The expected text, `stdout`, is written by tests/expected/counts.py: math.comb and math.factorial for binomials, factorials and Catalan
-// numbers, factorials for multinomials, the alternating sum over binomials for Stirling numbers (not their recursion), and for partitions one part
-// size after the other from the floor up, counting the parts. Of these the sums over k are held to Euler's pentagonal recurrence.
+// numbers, factorials for multinomials, the alternating sum over binomials for Stirling numbers and derangements (not their recursion), and for
+// partitions one part size after the other from the floor up, counting the parts. Of these the sums over k are held to Euler's pentagonal recurrence.
 ghost use Prim.Native.Nat.{_≤_, _+_};
 ghost use Rattle.basics.specs.Limits.{places};
 use basics::LONGEST_OBJECT;
@@ -40,6 +40,7 @@ fn count(letter: u8, n: u64, k: u64, floor: u64) -> Count {
         b's' => counting::stirling(n, k),
         b'p' => counting::partitions(floor, n, k),
         b'f' => counting::factorial(n),
+        b'd' => counting::derangement(n),
         _ => counting::catalan(n),
     }
 }
@@ -50,6 +51,7 @@ fn name(letter: u8) {
         b's' => text(b"stirling"),
         b'p' => text(b"partitions"),
         b'f' => text(b"factorial"),
+        b'd' => text(b"derangement"),
         _ => text(b"catalan"),
     }
 }
@@ -110,6 +112,7 @@ fn rows(n: u64)
     }
     one(b'f', n);
     one(b'c', n);
+    one(b'd', n);
 }
 
 // A multinomial, of one letter more than there are places at the most.

@@ -10,9 +10,9 @@
 //     DISTANCE: refused NUMBER BYTES;   the question missed, and the bytes left
 //
 // The cases and the expected text, `stdout`, that of the files in turn, are written by tests/expected/jumps.py, on the listings.
-// `small_families`: every kind, from each object to each other and beyond both ends. `both_ends`: the smallest and the largest distance.
+// `small_families`: kinds 1 to 6, from each object to each other and beyond both ends. `both_ends`: the smallest and the largest distance.
 // `large_families`: up to 2^64 - 1 objects and the longest there are. `refusals`: each question missed, and others behind it. `floors`: kind 5
-// with floors, and floors that are refused, on every kind. `editions`: the same of kind 4 and its editions.
+// with floors, and floors that are refused, on every kind. `editions`: the same of kind 4 and its editions. `derangements`: kind 7.
 use families::Family;
 use families::Lists;
 use libc::STDOUT_FILENO;

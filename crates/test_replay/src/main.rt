@@ -7,10 +7,10 @@
 // the bytes at the end. Before the calls answers and trail hold 255 at every place.
 //
 // The cases and the expected text, `stdout`, that of the files in turn, are written by tests/expected/replays.py, with a marker on the
-// listing that is fed no answer. `small_families`: every kind, to END and beyond, there and back, through the ranks, from bytes that are no
+// listing that is fed no answer. `small_families`: kinds 1 to 6, to END and beyond, there and back, through the ranks, from bytes that are no
 // object, and calls in no order. `refusals`: lists of calls in which each question is missed. `large_families`: at both edges of 2^64 and at
 // 80 places. `misfits`: codes that are no call's, and buffers of another length. `floors`: kind 5 with floors, and floors that are refused, on
-// every kind. `editions`: the same of kind 4 and its editions.
+// every kind. `editions`: the same of kind 4 and its editions. `derangements`: kind 7.
 ghost use Prim.Native.Nat.{_≤_};
 ghost use lib.ListN.{length};
 use basics::LONGEST_OBJECT;

@@ -14,10 +14,11 @@
 // and at the end the length, the number and the bytes kept, where the array has so many.
 //
 // The cases and the expected text, `stdout`, that of the files in turn, are written by tests/expected/walks.py, on the listings.
-// `small_families`: every kind, from each object to END and beyond, there and back, zigzag, in no order. `made_up`: numbers, lengths and
-// bytes that no start gives. `refusals`: each question missed, and others behind it. `lists_change`: other counts between the steps.
+// `small_families`: kinds 1 to 6, from each object to END and beyond, there and back, zigzag, in no order. `made_up`: numbers and lengths that
+// no start gives. `refusals`: bytes that no start gives, each question missed, and others behind it. `lists_change`: other counts between the
+// steps.
 // `large_families`: at both edges of 2^64 and at 80 places. `floors`: kind 5 with floors, and floors that are refused, on every kind.
-// `editions`: the same of kind 4 and its editions.
+// `editions`: the same of kind 4 and its editions. `derangements`: kind 7.
 ghost use mathlib.Core.Path.{_≡_};
 ghost use Prim.Native.Nat.{_≤_};
 ghost use lib.ListN.{length, take};

@@ -73,7 +73,8 @@ one-in-rows f b c =
     (more (λ x p q o w. without b c p q)
     (more (λ x p q o w. without b c p q)
     (more (λ x p q o w. without b c p q)
-    (more (λ x p q o w. without b c p q) none))))))
+    (more (λ x p q o w. without b c p q)
+    (more (λ x p q o w. without b c p q) none)))))))
 
 one-at : {b c : Lent} {l m : List Row} → Rows b c l m → (i : ℕ) → One b c (getD l i (noRow b)) (getD m i (noRow c))
 unfolding noRow

@@ -1,6 +1,6 @@
-//! A number for an arrangement, the arrangement for a number, one step on and back, a walk, jumps, a floor, an edition. Build and run: examples/rust/run
+//! A number for an arrangement, the arrangement for a number, one step on and back, a walk, jumps, a floor, an edition, derangements. Build and run: examples/rust/run
 
-use arrangements_example::{Arrangements, Family, DONE, END, REFUSED_EDITION, REFUSED_FLOOR, REFUSED_RANK};
+use arrangements_example::{Arrangements, Family, DONE, END, REFUSED_EDITION, REFUSED_FLOOR, REFUSED_NO_OBJECTS, REFUSED_RANK};
 
 /// Jumps: 100 places back, as many on, and off the listing, which is END.
 fn jumps(plans: &Arrangements, plan: &mut [u8]) {
@@ -43,6 +43,20 @@ fn editions() {
     println!("a permutation in edition 2 is refused");
 }
 
+/// All ways to hang 4 models anew with none on its old hook, by number; a single model has none.
+fn derangements() {
+    let changes = Arrangements { family: Family::of(7, 4, 0), counts: vec![] };
+    let (mut all, mut hooks) = (0, [0u8; 4]);
+    assert_eq!(changes.count(&mut all), DONE);
+    for number in 0..all {
+        assert_eq!(changes.unrank(number, &mut hooks), DONE);
+        println!("4, none on its old hook   {hooks:?}");
+    }
+    let single = Arrangements { family: Family::of(7, 1, 0), counts: vec![] };
+    assert_eq!(single.first(&mut hooks[..1]), REFUSED_NO_OBJECTS);
+    println!("a single model is refused");
+}
+
 fn main() {
     // Fourteen bytes of a plan with seven branches.
     let plans = Arrangements { family: Family::of(6, 7, 0), counts: vec![] };
@@ -71,6 +85,7 @@ fn main() {
     jumps(&plans, &mut plan);
     floors();
     editions();
+    derangements();
 
     assert_eq!(plans.last(&mut plan), DONE);
     let last = plan;

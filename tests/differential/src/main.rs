@@ -4,7 +4,7 @@
 mod reference;
 
 use arrangements_example::{Arrangements, Family};
-use reference::{leap, refusal, stride, Kind, Tables, LARGE};
+use reference::{at_seam, joined, leap, refusal, stride, Kind, Tables, LARGE};
 use std::cmp::Ordering;
 
 struct Random(u64);
@@ -26,7 +26,7 @@ const CALLS: [&str; 8] = ["LENGTH", "COUNT", "FIRST", "LAST", "NEXT", "PREVIOUS"
 
 /// Kind, n and k, with their counts, of any size.
 fn sizes(r: &mut Random) -> Kind {
-    let kind = 1 + r.below(6);
+    let kind = 1 + r.below(7);
     let top = [4, 8, 12, 27, 68, 81][r.below(6) as usize];
     let (mut n, mut k, mut counts) = (r.below(top), 0, vec![]);
     match kind {
@@ -44,9 +44,10 @@ fn sizes(r: &mut Random) -> Kind {
 }
 
 /// Families at the edges of 2^64 and of 80 places, and integer partitions with the largest floors.
-const EDGES: [(u64, u64, u64); 23] = [
+const EDGES: [(u64, u64, u64); 27] = [
     (1, 67, 33), (1, 68, 34), (1, 80, 21), (1, 80, 22), (1, 80, 40), (3, 20, 0), (3, 21, 0), (4, 26, 9), (4, 27, 8), (4, 65, 2), (4, 66, 2), (4, 42, 3),
     (4, 49, 41), (4, 80, 75), (4, 80, 40), (5, 80, 18), (5, 80, 20), (5, 80, 2), (5, 80, 1), (5, 0, 0), (6, 36, 0), (6, 37, 0), (6, 40, 0),
+    (7, 1, 0), (7, 20, 0), (7, 21, 0), (7, 80, 0),
 ];
 
 /// A floor. For kind 5 one round question 10's edges or round n / k, beyond which there are no objects, one that leaves objects, a small one, or 1; for
@@ -97,17 +98,53 @@ fn family(r: &mut Random) -> Kind {
     f
 }
 
-/// An object of a family whose ranks the reference cannot tell: the bytes shuffled, and for set partitions the blocks numbered again.
+fn shuffle(r: &mut Random, x: &mut [u8]) {
+    for i in (1..x.len()).rev() {
+        x.swap(i, r.below(i as u64 + 1) as usize);
+    }
+}
+
+/// A derangement of many models at an end of its listing, or at a seam of it: the cuts of more than some number of models, and those of fewer, are all the
+/// first, all the last, or any; the cut between is any, or the first or the last of its half.
+fn near_an_end(r: &mut Random, models: u64) -> Vec<u8> {
+    let (outer, inner) = (r.below(3), r.below(3));
+    let some = if r.below(2) == 0 { models } else { r.below(models + 1) };
+    let (mut cuts, mut n, mut turned) = (vec![], models, false);
+    while n > 0 {
+        let turns = n <= some && !turned;
+        turned |= turns;
+        let cut = match if turns { r.below(5) } else if turned { inner } else { outer } {
+            _ if n == 2 => (true, 1),
+            0 => (false, 1),
+            1 => (n > 3, n - 1),
+            2 => (n > 3 && r.below(2) == 0, 1 + r.below(n - 1)),
+            3 => (false, n - 1),
+            _ => (n > 3, 1),
+        };
+        cuts.push((cut.0, cut.1 as u8));
+        n -= 1 + cut.0 as u64;
+    }
+    joined(&cuts)
+}
+
+/// An object of a family whose ranks the reference cannot tell: the bytes shuffled, for set partitions the blocks numbered again, for derangements until no
+/// byte keeps its place; half of these are near an end.
 fn shuffled(r: &mut Random, f: &Kind) -> Vec<u8> {
+    if f.kind == 7 && r.below(2) == 0 {
+        return near_an_end(r, f.n);
+    }
     let mut x: Vec<u8> = match f.kind {
         1 => (1..=f.n as u8).collect(),
         4 => (0..f.n).map(|i| if i < f.k { i as u8 + 1 } else { r.below(f.k) as u8 + 1 }).collect(),
         _ => f.letters().iter().enumerate().flat_map(|(i, &c)| vec![i as u8 + 1; c]).collect(),
     };
-    for i in (1..x.len()).rev() {
-        x.swap(i, r.below(i as u64 + 1) as usize);
-    }
+    shuffle(r, &mut x);
     match f.kind {
+        7 => {
+            while !f.holds(&x) {
+                shuffle(r, &mut x);
+            }
+        }
         1 => {
             x.truncate(f.k as usize);
             x.sort();
@@ -127,7 +164,7 @@ fn shuffled(r: &mut Random, f: &Kind) -> Vec<u8> {
     x
 }
 
-/// A buffer: an object, an object with a byte changed, one of a lower floor, or any bytes of some length.
+/// A buffer: an object, an object with a byte changed or brought to its place, one of a lower floor, or any bytes of some length.
 fn buffer(r: &mut Random, t: &Tables, f: &Kind, usable: bool) -> Vec<u8> {
     if !usable || r.below(12) == 0 {
         return (0..r.below(90)).map(|_| r.below(5) as u8).collect();
@@ -142,7 +179,7 @@ fn buffer(r: &mut Random, t: &Tables, f: &Kind, usable: bool) -> Vec<u8> {
         let lower = Kind { floor: 1 + r.below(f.floor - 1), ..f.clone() };
         return lower.unrank(t, r.next() as u128 % lower.count(t));
     }
-    let mut x = if count >= LARGE && f.kind < 5 && r.below(4) > 0 { shuffled(r, f) } else { f.unrank(t, rank) };
+    let mut x = if count >= LARGE && ![5, 6].contains(&f.kind) && r.below(4) > 0 { shuffled(r, f) } else { f.unrank(t, rank) };
     match r.below(10) {
         0 if !x.is_empty() => {
             let i = r.below(x.len() as u64) as usize;
@@ -151,6 +188,11 @@ fn buffer(r: &mut Random, t: &Tables, f: &Kind, usable: bool) -> Vec<u8> {
         1 => x.push(1),
         2 => {
             x.pop();
+        }
+        3 if f.kind == 7 && !x.is_empty() => {
+            let i = r.below(x.len() as u64) as usize;
+            let there = x.iter().position(|&a| a as usize == i + 1).unwrap();
+            x.swap(i, there);
         }
         _ => {}
     }
@@ -163,14 +205,18 @@ fn describe(f: &Kind, call: &str, number: i128, x: &[u8]) -> String {
     format!("{call} on kind {kind} n {n} k {k} floor {floor} edition {edition} counts {counts:?} number {number} bytes {x:?}")
 }
 
-/// Is y just after x? y is a larger object, and its rank is one more; in a family whose ranks the reference cannot tell, among the objects that
-/// share what x and y have in common behind (or in front of) all their differences.
+/// Is y just after x? Both are objects, y the larger one, and its rank is one more; in a family whose ranks the reference cannot tell, among the objects that
+/// share what x and y have in common behind (or in front of) all their differences. Of derangements it needs no ranks then.
 fn is_next(t: &Tables, f: &Kind, x: &[u8], y: &[u8]) -> bool {
-    if !f.holds(y) || f.order(x, y) != Ordering::Less {
+    if !f.holds(x) || !f.holds(y) || f.order(x, y) != Ordering::Less {
         return false;
     }
     let (g, a, b) = if f.count(t) < LARGE { (f.clone(), x.to_vec(), y.to_vec()) } else { f.narrowed(x, y) };
-    g.count(t) >= LARGE || g.rank(t, &b) == g.rank(t, &a) + 1
+    match g.kind {
+        _ if g.count(t) < LARGE => g.rank(t, &b) == g.rank(t, &a) + 1,
+        7 => at_seam(t, &a, &b),
+        _ => true,
+    }
 }
 
 fn library(f: &Kind) -> Arrangements {
@@ -361,10 +407,10 @@ fn main() {
                 "LENGTH" => code == 0 && value as usize == f.length(),
                 "COUNT" => code == 0 && value as u128 == count,
                 "FIRST" => code == 0 && y == f.unrank(&t, 0),
-                "LAST" => code == 0 && f.holds(&y) && (count >= LARGE || y == f.unrank(&t, count - 1)),
-                "NEXT" if code == 100 => y == x && (count >= LARGE || f.rank(&t, &x) == count - 1),
+                "LAST" => code == 0 && f.holds(&y) && f.last(&t).map_or(true, |z| y == z),
+                "NEXT" if code == 100 => y == x && f.last(&t).map_or(true, |z| x == z),
                 "NEXT" => code == 0 && is_next(&t, &f, &x, &y),
-                "PREVIOUS" if code == 100 => y == x && (count >= LARGE || f.rank(&t, &x) == 0),
+                "PREVIOUS" if code == 100 => y == x && x == f.unrank(&t, 0),
                 "PREVIOUS" => code == 0 && is_next(&t, &f, &y, &x),
                 "RANK" => code == 0 && value as u128 == f.rank(&t, &x),
                 _ => code == 0 && y == f.unrank(&t, rank as u128),
@@ -379,7 +425,7 @@ fn main() {
     let (walks, mut steps) = (calls / 10, Outcomes::default());
     each_agrees("walk", walks, |_| walk(&mut r, &t, &mut steps));
     let (jumps, mut landings) = (calls / 5, Outcomes::default());
-    each_agrees("jump", jumps, |turn| jump(&mut r, &t, 1 + turn % 6, &mut landings));
+    each_agrees("jump", jumps, |turn| jump(&mut r, &t, 1 + turn % 7, &mut landings));
     print!("{calls} calls agree, {answered} of them answered and {} refused; ", calls - answered);
     println!("{walks} walks agree, of their steps {steps}; {jumps} jumps agree, {landings}");
 }

@@ -1,7 +1,7 @@
 //! An independent implementation of the families: objects by the table's words, order by a comparison, numbers by counting extensions in
 //! 128-bit arithmetic that stops at 2^100. It shares no code with the library: it has no steps, only ranks, so that a neighbour is the object
-//! whose rank differs by one; a walk's step is the object of that rank, whatever number the walk keeps, and a jump's goal the object whose rank is a
-//! sum in 128 bits.
+//! whose rank differs by one (of derangements, where ranks stop, the one that meets it at a seam); a walk's step is the object of that rank, whatever
+//! number the walk keeps, and a jump's goal the object whose rank is a sum in 128 bits.
 
 use std::cmp::Ordering;
 
@@ -25,6 +25,7 @@ pub struct Tables {
     /// parts[k][f][n]: k parts, each at least f, with the sum n
     parts: Vec<Vec<Vec<u128>>>,
     catalan: Vec<u128>,
+    derangements: Vec<u128>,
 }
 
 impl Tables {
@@ -53,7 +54,13 @@ impl Tables {
         for n in 1..42 {
             catalan[n] = (0..n).fold(0, |s, j| add(s, mul(catalan[j], catalan[n - 1 - j])));
         }
-        Tables { choose, blocks, parts, catalan }
+        // D(n) = n D(n-1) + (-1)^n; what is cut off stays so
+        let mut derangements = vec![1u128];
+        for n in 1..82 {
+            let all = mul(n as u128, derangements[n - 1]);
+            derangements.push(if n % 2 == 0 { add(all, 1) } else { all - (all < CAP) as u128 });
+        }
+        Tables { choose, blocks, parts, catalan, derangements }
     }
 
     fn words(&self, counts: &[usize]) -> u128 {
@@ -84,10 +91,11 @@ impl Kind {
     }
 
     pub fn letters(&self) -> Vec<usize> {
-        if self.kind == 3 { vec![1; self.n as usize] } else { self.counts.iter().map(|&c| c as usize).collect() }
+        if self.kind == 3 || self.kind == 7 { vec![1; self.n as usize] } else { self.counts.iter().map(|&c| c as usize).collect() }
     }
 
-    /// The family of the parts in which two objects differ, and these parts: what they share in front (kinds 2 and 3) or behind is left out.
+    /// The family of the parts in which two objects differ, and these parts: what they share in front (kinds 2 and 3) or behind is left out, and of kind
+    /// 7 the cuts that they share.
     pub fn narrowed(&self, x: &[u8], y: &[u8]) -> (Kind, Vec<u8>, Vec<u8>) {
         match self.kind {
             1 | 4 => {
@@ -107,6 +115,12 @@ impl Kind {
                 x[..start].iter().for_each(|&a| left[a as usize - 1] -= 1);
                 (Kind::of(2, left.len() as u64, 0, left), x[start..].to_vec(), y[start..].to_vec())
             }
+            7 => {
+                let (a, b) = (cuts(x), cuts(y));
+                let shared = a.iter().zip(&b).take_while(|(p, q)| p == q).count();
+                let (x, y) = (joined(&a[shared..]), joined(&b[shared..]));
+                (Kind::of(7, x.len() as u64, 0, vec![]), x, y)
+            }
             _ => (self.clone(), x.to_vec(), y.to_vec()),
         }
     }
@@ -116,16 +130,16 @@ impl Kind {
         let (n, k) = (self.n, self.k);
         let sum: u64 = self.counts.iter().map(|&c| c as u64).sum();
         match self.kind {
-            0 | 7.. => 1,
+            0 | 8.. => 1,
             1 | 4 | 5 if n > 80 || k > 80 => 2,
-            2 | 3 if n > 80 || k != 0 => 2,
+            2 | 3 | 7 if n > 80 || k != 0 => 2,
             6 if n > 40 || k != 0 => 2,
             5 if self.floor < 1 || self.floor > 80 => 10,
-            1..=4 | 6 if self.floor != 1 => 10,
+            1..=4 | 6 | 7 if self.floor != 1 => 10,
             4 if self.edition < 1 || self.edition > 2 => 11,
-            1 | 2 | 3 | 5 | 6 if self.edition != 1 => 11,
+            1 | 2 | 3 | 5 | 6 | 7 if self.edition != 1 => 11,
             2 if self.counts.len() as u64 != n || sum > 80 => 3,
-            1 | 3..=6 if !self.counts.is_empty() => 3,
+            1 | 3..=7 if !self.counts.is_empty() => 3,
             _ => 0,
         }
     }
@@ -134,7 +148,7 @@ impl Kind {
         match self.kind {
             1 | 5 => self.k as usize,
             2 => self.letters().iter().sum(),
-            3 | 4 => self.n as usize,
+            3 | 4 | 7 => self.n as usize,
             _ => 2 * self.n as usize,
         }
     }
@@ -146,6 +160,7 @@ impl Kind {
             2 | 3 => t.words(&self.letters()),
             4 => t.blocks[n][k],
             5 => t.parts[k][self.floor as usize][n],
+            7 => t.derangements[n],
             _ => t.catalan[n],
         }
     }
@@ -156,7 +171,8 @@ impl Kind {
         }
         match self.kind {
             1 => x.iter().all(|&a| a >= 1 && a as u64 <= self.n) && x.windows(2).all(|w| w[0] < w[1]),
-            2 | 3 => self.letters().iter().enumerate().all(|(i, &c)| x.iter().filter(|&&a| a as usize == i + 1).count() == c),
+            7 if (1..).zip(x).any(|(i, &a)| i == a) => false,
+            2 | 3 | 7 => self.letters().iter().enumerate().all(|(i, &c)| x.iter().filter(|&&a| a as usize == i + 1).count() == c),
             4 => {
                 let k = self.k as usize;
                 let firsts: Vec<_> = (1..=k).map(|b| x.iter().position(|&a| a as usize == b)).collect();
@@ -234,9 +250,33 @@ impl Kind {
                     k -= 1;
                 }
             }
+            7 => {
+                let mut taken = vec![];
+                while n > 0 {
+                    for cut in cuts_in_order(n) {
+                        let here = left_by(t, n, cut);
+                        if r < here {
+                            taken.push(cut);
+                            n -= 1 + cut.0 as usize;
+                            break;
+                        }
+                        r -= here;
+                    }
+                }
+                x = joined(&taken);
+            }
             _ => x = dyck(t, n, r),
         }
         x
+    }
+
+    /// The last object; nothing where ranks are cut off, but of derangements.
+    pub fn last(&self, t: &Tables) -> Option<Vec<u8>> {
+        match self.kind {
+            _ if self.count(t) < LARGE => Some(self.unrank(t, self.count(t) - 1)),
+            7 => Some(last_derangement(self.n as usize)),
+            _ => None,
+        }
     }
 
     /// How many objects come before x, the same way.
@@ -279,6 +319,16 @@ impl Kind {
                 }
                 r
             }
+            7 => {
+                let (mut r, mut n) = (0, x.len());
+                for own in cuts(x) {
+                    for cut in cuts_in_order(n).take_while(|&cut| cut != own) {
+                        r = add(r, left_by(t, n, cut));
+                    }
+                    n -= 1 + own.0 as usize;
+                }
+                r
+            }
             _ => dyck_rank(t, x),
         }
     }
@@ -309,9 +359,96 @@ impl Kind {
                 let (a, b) = (Self::keys(x), Self::keys(y));
                 (0..a.len()).rev().map(|i| self.key_order(a[i], b[i])).find(|o| o.is_ne()).unwrap_or(Ordering::Equal)
             }
+            7 => cuts(x).cmp(&cuts(y)),
             _ => dyck_order(x, y),
         }
     }
+}
+
+/// What decides the order of a derangement of n: whether n is in a cycle of two, and c, which follows it there.
+pub type Cut = (bool, u8);
+
+/// The cuts of a derangement, n's first: of each what is left is the next one's. Here it is a list of cycles, each model followed by its f.
+fn cuts(x: &[u8]) -> Vec<Cut> {
+    let mut cycles: Vec<Vec<u8>> = vec![];
+    for i in 1..=x.len() as u8 {
+        if cycles.iter().all(|cycle| !cycle.contains(&i)) {
+            let mut cycle = vec![i];
+            while x[*cycle.last().unwrap() as usize - 1] != i {
+                cycle.push(x[*cycle.last().unwrap() as usize - 1]);
+            }
+            cycles.push(cycle);
+        }
+    }
+    let (mut found, mut n) = (vec![], x.len() as u8);
+    while n > 0 {
+        let own = cycles.iter().position(|cycle| cycle.contains(&n)).unwrap();
+        let place = cycles[own].iter().position(|&a| a == n).unwrap();
+        let c = cycles[own][(place + 1) % cycles[own].len()];
+        let two = cycles[own].len() == 2;
+        if two {
+            cycles.remove(own);
+            cycles.iter_mut().flatten().for_each(|a| *a -= (*a > c) as u8);
+        } else {
+            cycles[own].remove(place);
+        }
+        n -= 1 + two as u8;
+        found.push((two, c));
+    }
+    found
+}
+
+/// The derangement that has these cuts, by its cycles too.
+pub fn joined(cuts: &[Cut]) -> Vec<u8> {
+    let (mut cycles, mut n): (Vec<Vec<u8>>, u8) = (vec![], 0);
+    for &(two, c) in cuts.iter().rev() {
+        n += 1 + two as u8;
+        if two {
+            cycles.iter_mut().flatten().for_each(|a| *a += (*a >= c) as u8);
+            cycles.push(vec![n, c]);
+        } else {
+            let own = cycles.iter().position(|cycle| cycle.contains(&c)).unwrap();
+            let place = cycles[own].iter().position(|&a| a == c).unwrap();
+            cycles[own].insert(place, n);
+        }
+    }
+    let mut x = vec![0; n as usize];
+    for cycle in &cycles {
+        for (i, &a) in cycle.iter().enumerate() {
+            x[a as usize - 1] = cycle[(i + 1) % cycle.len()];
+        }
+    }
+    x
+}
+
+/// The cuts that a derangement of n can have, the earliest first; 2 and 3 have some that leave none.
+fn cuts_in_order(n: usize) -> impl Iterator<Item = Cut> {
+    [false, true].into_iter().flat_map(move |two| (1..n as u8).map(move |c| (two, c)))
+}
+
+/// How many derangements of n have this cut.
+fn left_by(t: &Tables, n: usize, cut: Cut) -> u128 {
+    t.derangements[n - 1 - cut.0 as usize]
+}
+
+/// The last derangement of n: cycles of two, and where n is odd one of three.
+fn last_derangement(n: usize) -> Vec<u8> {
+    let mut x = if n % 2 == 0 { vec![] } else { vec![3, 1, 2] };
+    while x.len() < n {
+        let a = x.len() as u8 + 1;
+        x.extend([a + 1, a]);
+    }
+    x
+}
+
+/// Do two derangements of n, whose cuts of n differ, meet at a seam? The second has the next cut that leaves any; the first leaves the last of its size,
+/// the second the first, which is one cycle. That needs no ranks.
+pub fn at_seam(t: &Tables, x: &[u8], y: &[u8]) -> bool {
+    let (a, b, n) = (cuts(x), cuts(y), x.len());
+    let (left_a, left_b) = (joined(&a[1..]), joined(&b[1..]));
+    let next = cuts_in_order(n).find(|&cut| cut > a[0] && left_by(t, n, cut) > 0);
+    let one_cycle = (0..left_b.len()).map(|i| (i + 1) % left_b.len() + 1).eq(left_b.iter().map(|&v| v as usize));
+    next == Some(b[0]) && left_a == last_derangement(left_a.len()) && one_cycle
 }
 
 fn split(x: &[u8]) -> (&[u8], &[u8]) {

@@ -1,4 +1,4 @@
--- The largest n and k of a kind's row, by the kind's number: "n branches, 0 to 40" of kind 6, and k only of kinds 1, 4 and 5 (SCOPE 1.1 to 1.6).
+-- The largest n and k of a kind's row, by the kind's number: "n branches, 0 to 40" of kind 6, and k only of kinds 1, 4 and 5 (SCOPE 1.1 to 1.7).
 -- Assumes nothing.
 use mathlib.Core.Bool.{cond, _||_}
 use Prim.Native.Nat.{ℕ}

@@ -26,6 +26,9 @@ is-object-spec =
     (λ c κs.
     let t = handed 6 _ _ (c .match .keys6) (c .before .before .before .pre) in
     n-within _ _ _ (t .bounds))
+    (λ c κs.
+    let t = handed 7 _ _ (c .match .keys7) (c .before .before .before .pre) in
+    n-within _ _ _ (t .bounds))
     (λ c.
     let t = handed 1 _ _ (c .before .match .keys1) (c .before .before .before .before .pre) in
     c .is-object .ensures ∙ sym (t .objects _))
@@ -44,4 +47,7 @@ is-object-spec =
     (λ c.
     let t = handed 6 _ _ (c .before .match .keys6) (c .before .before .before .before .pre) in
     c .is-object6 .ensures ∙ sym (t .objects _))
+    (λ c.
+    let t = handed 7 _ _ (c .before .match .keys7) (c .before .before .before .before .pre) in
+    c .is-object7 .ensures ∙ sym (t .objects _))
     (λ c. absurd (has-arm _ _ (c .before .before .before .pre) (c .match .rest))))

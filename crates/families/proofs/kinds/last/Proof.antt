@@ -6,7 +6,7 @@ use denote.Ref.{now}
 use borrow.Author.Needs.{needs}
 use borrow.Author.Tests.{leb-true}
 use Rattle.families.proofs.FamilyFacts.{has-arm}
-use Rattle.families.proofs.Dispatch.{handed, long-n, long-k, n-within, letters-fit, shared}
+use Rattle.families.proofs.Dispatch.{handed, long-n, long-k, n-within, letters-fit, shared, other-than}
 use Rattle.families.proofs.kinds.last.Statement.{statement}
 use Rattle.families.proofs.kinds.last.Tie as tie
 
@@ -41,6 +41,10 @@ last-spec =
     let s = c .before .before .before .before in
     let t = handed 6 _ _ (c .before .match .keys6) (s .pre .0) in
     s .pre .1 .1 ∙ t .long)
+    (λ c κs.
+    let s = c .before .before .before .before in
+    let t = long-n 7 _ _ (s .args .object .now) (c .before .match .keys7) (s .pre .0) (s .pre .1 .1) refl in
+    (n-within _ _ _ (t .bounds), other-than _ 1 (t .some (s .pre .1 .0))))
     (λ c. search needs)
     (λ c.
     let m = c .before .before .before .before in
@@ -77,4 +81,10 @@ last-spec =
     let s = m .before .before .before in
     let t = handed 6 _ _ (m .match .keys6) (s .pre .0) in
     rw (t .lists) (c .before .before .last6 .ensures))
+    (λ c. search needs)
+    (λ c.
+    let m = c .before .before .before .before in
+    let s = m .before .before .before in
+    let t = long-n 7 _ _ (s .args .object .now) (m .match .keys7) (s .pre .0) (s .pre .1 .1) refl in
+    rw (t .lists) (c .before .before .last7 .ensures))
     (λ c. absurd (has-arm _ _ (c .before .before .before .pre .0) (c .match .rest))))

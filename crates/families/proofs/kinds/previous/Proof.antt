@@ -28,6 +28,9 @@ previous-spec =
     (λ c κs.
     let s = c .before .before .before in let t = object 6 _ _ _ (c .before .match .keys6) (s .pre) in
     (n-within _ _ _ (t .bounds), sym (t .objects _) ∙ s .pre))
+    (λ c κs.
+    let s = c .before .before .before in let t = object-n 7 _ _ _ (c .before .match .keys7) (s .pre) refl in
+    (n-within _ _ _ (t .bounds), sym (t .objects _) ∙ s .pre))
     (λ c. search needs)
     (λ c.
     let m = c .before .before .before .before in let t = object-k 1 _ _ _ (m .match .keys1) (m .before .before .pre) refl in
@@ -52,4 +55,8 @@ previous-spec =
     (λ c.
     let m = c .before .before .before .before in let t = object 6 _ _ _ (m .match .keys6) (m .before .before .pre) in
     rw (t .orders, t .lists) (c .before .before .previous6 .ensures))
+    (λ c. search needs)
+    (λ c.
+    let m = c .before .before .before .before in let t = object-n 7 _ _ _ (m .match .keys7) (m .before .before .pre) refl in
+    rw (t .orders, t .lists) (c .before .before .previous7 .ensures))
     (λ c. absurd (has-arm _ _ (object-allowed _ _ _ (c .before .before .pre)) (c .match .rest))))

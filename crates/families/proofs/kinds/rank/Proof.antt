@@ -58,6 +58,14 @@ returns-6 c =
     let t = object 6 _ _ _ (c .before .match .keys6) (c .before .before .before .before .pre .0) in
     rw (t .orders, t .lists) (c .rank6 .ensures)
 
+-- kind 7
+
+returns-7 : tie.Need-returns-7
+unfolding rankOf
+returns-7 c =
+    let t = object-n 7 _ _ _ (c .before .match .keys7) (c .before .before .before .before .pre .0) refl in
+    rw (t .orders, t .lists) (c .rank7 .ensures)
+
 pub rank-spec : {M : Type 1} → statement M
 rank-spec =
     tie.close
@@ -81,10 +89,14 @@ rank-spec =
     (λ c κs.
     let s = c .before .before .before in let t = object 6 _ _ _ (c .match .keys6) (s .pre .0) in
     (n-within _ _ _ (t .bounds), (sym (t .objects _) ∙ s .pre .0, rw (t .counted) at (s .pre .1))))
+    (λ c κs.
+    let s = c .before .before .before in let t = object-n 7 _ _ _ (c .match .keys7) (s .pre .0) refl in
+    (n-within _ _ _ (t .bounds), (sym (t .objects _) ∙ s .pre .0, rw (t .counted) at (s .pre .1))))
     returns
     returns-2
     returns-3
     returns-4
     returns-5
     returns-6
+    returns-7
     (λ c. absurd (has-arm _ _ (object-allowed _ _ _ (c .before .before .before .pre .0)) (c .match .rest))))

@@ -39,6 +39,10 @@ unrank-spec =
     let s = c .before .before .before .before in
     let t = handed 6 _ _ (c .before .match .keys6) (s .pre .0) in
     (s .pre .1 .1 .0 ∙ t .long, (rw (t .counted) at (s .pre .1 .0), rw (t .counted) at (s .pre .1 .1 .1))))
+    (λ c κs.
+    let s = c .before .before .before .before in
+    let t = long-n 7 _ _ (s .args .object .now) (c .before .match .keys7) (s .pre .0) (s .pre .1 .1 .0) refl in
+    (n-within _ _ _ (t .bounds), (rw (t .counted) at (s .pre .1 .0), rw (t .counted) at (s .pre .1 .1 .1))))
     (λ c. search needs)
     (λ c.
     let m = c .before .before .before .before in
@@ -75,4 +79,10 @@ unrank-spec =
     let s = m .before .before .before in
     let t = handed 6 _ _ (m .match .keys6) (s .pre .0) in
     rw (t .lists) (c .before .before .unrank6 .ensures))
+    (λ c. search needs)
+    (λ c.
+    let m = c .before .before .before .before in
+    let s = m .before .before .before in
+    let t = long-n 7 _ _ (s .args .object .now) (m .match .keys7) (s .pre .0) (s .pre .1 .1 .0) refl in
+    rw (t .lists) (c .before .before .unrank7 .ensures))
     (λ c. absurd (has-arm _ _ (c .before .before .before .pre .0) (c .match .rest))))

@@ -25,6 +25,7 @@ count-spec =
     (λ c κs. search needs)
     (λ c κs. search needs)
     (λ c κs. search needs)
+    (λ c κs. search needs)
     (λ c.
     let s = c .before .before .before in let t = handed 1 (s .args .f) (lent (map now (s .args .t2))) (c .before .match .keys1) (s .pre) in
     answer-within (c .coefficient .ensures) (t .bounds) (t .counted))
@@ -43,4 +44,7 @@ count-spec =
     (λ c.
     let s = c .before .before .before in let t = handed 6 (s .args .f) (lent (map now (s .args .t2))) (c .before .match .keys6) (s .pre) in
     answer-within (c .catalan .ensures) (and-true (leb (s .args .f .n) branches) _ (t .bounds) .0) (t .counted))
+    (λ c.
+    let s = c .before .before .before in let t = handed 7 (s .args .f) (lent (map now (s .args .t2))) (c .before .match .keys7) (s .pre) in
+    answer-within (c .derangement .ensures) (and-true (leb (s .args .f .n) places) _ (t .bounds) .0) (t .counted))
     (λ c. absurd (has-arm _ _ (c .before .before .pre) (c .match .rest))))

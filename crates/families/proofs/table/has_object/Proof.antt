@@ -48,6 +48,10 @@ returns-6 : tie.Need-returns-6
 unfolding row
 returns-6 c = rw (c .match .keys6)
 
+returns-7 : tie.Need-returns-7
+unfolding row
+returns-7 c = rw (c .match .keys7)
+
 pub has-object-spec : {M : Type 1} → statement M
 has-object-spec =
     tie.close
@@ -61,4 +65,5 @@ has-object-spec =
     returns-4
     returns-5
     returns-6
+    returns-7
     (λ c. absurd (has-arm _ _ (c .before .pre) (c .match .rest))))

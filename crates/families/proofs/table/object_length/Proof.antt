@@ -38,6 +38,10 @@ returns-6 : tie.Need-returns-6
 unfolding objectLength row
 returns-6 c = rw (c .match .keys6)
 
+returns-7 : tie.Need-returns-7
+unfolding objectLength row
+returns-7 c = rw (c .match .keys7)
+
 pub object-length-spec : {M : Type 1} → statement M
 object-length-spec =
     tie.close
@@ -57,4 +61,5 @@ object-length-spec =
     returns-4
     returns-5
     returns-6
+    returns-7
     (λ c. absurd (has-arm _ _ (c .before .before .pre) (c .match .rest))))
