@@ -17,7 +17,7 @@
  *   kind 4  set partitions: byte i is the block of model i  n bytes       n, k up to 80, edition 1 or 2
  *   kind 5  integer partitions of n into k parts >= floor   k bytes       n, k up to 80, floor 1 to 80
  *   kind 6  Dyck words with n of each, 1 up and 0 down      2n bytes      n up to 40, k = 0
- *   kind 7  derangements: permutations, byte i never being in bytes       n up to 80, k = 0
+ *   kind 7  permutations of 1 to n, byte i never i          n bytes       n up to 80, k = 0
  * The editions of kind 4 have the same objects and differ in the order: in edition 1 a model that is the smallest of its block comes before the same
  * model in blocks 1, 2, .., in edition 2 behind it.
  *

@@ -9,18 +9,13 @@ from families import BRANCHES, FITS, FLOORS, PLACES
 from texts import words, write
 
 
-def derangement(n):
-    """By inclusion and exclusion, i places fixed and the others in any order: not by the recursion that defines the library's numbers."""
-    return sum((-1) ** i * comb(n, i) * factorial(n - i) for i in range(n + 1))
-
-
 COUNTS = {
     "binomial": comb,
     "stirling": families.stirling,
     "partitions": families.partitions,
     "factorial": factorial,
     "catalan": families.catalan,
-    "derangement": derangement,
+    "derangement": families.derangements,
     "multinomial": lambda *counts: families.multinomial(counts),
 }
 # how many of a line's numbers each takes; a multinomial takes all
