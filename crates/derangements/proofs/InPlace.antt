@@ -180,8 +180,8 @@ front-is zero z key two h k = absurd (omega arith)
 front-is (suc zero) z key two h k = absurd (omega arith)
 front-is (suc (suc m)) z key two h k = let size : m ≡ suc (suc m) - 2 = omega arith in subst (λ j. isDerangement j (take j z) ≡ true) size (front-object m z key (omega arith) k)
 
-pub last-value : (n : ℕ) (x : Bytes) → 2 ≤ n → isDerangement n x ≡ true → Among n (getD x (n - 1) 0)
-last-value n x two o = deranged n x o .by .values n (omega arith)
+pub last-value : (n : ℕ) (x : Bytes) → 2 ≤ n → isDerangement n x ≡ true → Among (n - 1) (getD x (n - 1) 0)
+last-value n x two o = let d = deranged n x o .by in let v = d .values n (omega arith) in let p = d .moves n (omega arith) in omega (arith, v, p)
 
 -- as the search is handed the places in front of the last
 stands-in-front : (n v : ℕ) (z : Bytes) → length z ≡ n → (i : ℕ) × (i < n - 1) × (getD z i 0 ≡ v) → (i : ℕ) × (i < length (take (n - 1) z)) × (getD (take (n - 1) z) i 0 ≡ v)

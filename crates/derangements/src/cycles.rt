@@ -5,10 +5,13 @@ ghost use mathlib.Core.Bool.{true};
 ghost use Prim.Native.Nat.{ℕ, _-_, _≤_, _<_};
 ghost use lib.ListN.{length, take, getD};
 ghost use Rattle.basics.specs.Limits.{places};
-ghost use Rattle.derangements.specs.Cycles.{lowered as loweredOf, raised as raisedOf, unpair};
+ghost use Rattle.derangements.specs.Cycles.{unpair};
 ghost use Rattle.derangements.specs.Objects.{isDerangement};
 ghost use Rattle.derangements.specs.Listing.{pair, join};
 ghost use Rattle.derangements.specs.inner.Keys.{leftOf, Keyed, TakenApart};
+use crate::labels::relabel;
+use crate::labels::shift_left;
+use crate::labels::shift_right;
 
 // How many places are left with a key.
 pub fn left_of(n: usize, key: u8) -> usize
@@ -30,54 +33,32 @@ fn place_of(number: u8, object: &[u8]) -> usize
     i
 }
 
-// A label or place without c.
-fn lowered(c: u8, i: u8) -> u8
-    ensures { λ r. ⌜ r ≡ loweredOf c i ⌝ }
-{
-    if c < i { i - 1 } else { i }
-}
-
-// With room for c again.
-fn raised(c: u8, i: u8) -> u8
-    requires { ⌜ i ≤ places ⌝ }
-    ensures { λ r. ⌜ r ≡ raisedOf c i ⌝ }
-{
-    if c <= i { i + 1 } else { i }
-}
-
-// Removes c and n. Each place reads one that isn't yet written.
+// Removes c and n: the places behind c move down by one, and then the labels above c.
 fn drop_pair(c: u8, object: &mut [u8])
     requires { ⌜ (2 ≤ length (now object)) × (length (now object) ≤ places) ⌝ }
+    requires { ⌜ (1 ≤ c) × (c < length (now object)) ⌝ }
     requires { ⌜ c ≡ getD (now object) (length (now object) - 1) 0 ⌝ }
     ensures { λ _. ⌜ take (length (now (object .entry)) - 2) (now (object .exit)) ≡ unpair (length (now (object .entry))) (now (object .entry)) ⌝ }
 {
-    let left = (object.len() - 2) as u8;
-    let mut i: u8 = 0;
-    while i < left {
-        let from = raised(c, i + 1) - 1;
-        object[i as usize] = lowered(c, object[from as usize]);
-        i += 1;
-    }
+    let end = object.len() - 1;
+    let at = c as usize - 1;
+    shift_left(&mut object[at..end]);
+    relabel(false, c, &mut object[..end - 1]);
 }
 
-// Puts c and n back, from the last place to the first. Each place reads one that isn't yet written; what place c gets is written over at the end. Where c
-// is n - 1, it reads its own place, where nothing is left: so that gets a number first.
+// Puts c and n back: the labels from c on move up by one, and then the places.
 fn add_pair(c: u8, object: &mut [u8])
     requires { ⌜ (2 ≤ length (now object)) × (length (now object) ≤ places) ⌝ }
     requires { ⌜ (1 ≤ c) × (c < length (now object)) ⌝ }
     requires { ⌜ isDerangement (length (now object) - 2) (take (length (now object) - 2) (now object)) ≡ true ⌝ }
     ensures { λ _. ⌜ now (object .exit) ≡ pair (length (now (object .entry))) c (take (length (now (object .entry)) - 2) (now (object .entry))) ⌝ }
 {
-    let end = (object.len() - 1) as u8;
-    object[end as usize - 1] = 0;
-    let mut i = end;
-    while 0 < i {
-        let from = lowered(c, i) - 1;
-        i -= 1;
-        object[i as usize] = raised(c, object[from as usize]);
-    }
-    object[c as usize - 1] = end + 1;
-    object[end as usize] = c;
+    let end = object.len() - 1;
+    let at = c as usize - 1;
+    relabel(true, c, &mut object[..end - 1]);
+    shift_right(&mut object[at..end]);
+    object[at] = (end + 1) as u8;
+    object[end] = c;
 }
 
 // The key; what is left stands in front.

@@ -13,6 +13,7 @@ ghost use Rattle.derangements.specs.Listing.{derangements};
 
 pub mod cycles;
 mod ends;
+mod labels;
 mod stepping;
 
 use anagrams::permutations;

@@ -1,112 +1,112 @@
--- `derangements::cycles::add_pair` meets its contract: the places passed are those with c and n, and the others are still as they were.
+-- `derangements::cycles::add_pair` meets its contract: the labels from c on move up, and then the places to the right, so that there is room for c and n.
 -- Assumes nothing.
-use mathlib.Core.Path.{_≡_, refl, _∙_, ap, ap₂, subst}
+use mathlib.Core.Path.{_≡_, sym, _∙_, ap₂, subst}
 use mathlib.Core.Bool.{true}
-use Prim.Native.Nat.{ℕ, suc, _+_, _-_, _≤_}
+use mathlib.Core.List.{_++_}
+use Prim.Native.Nat.{ℕ, suc, _+_, _-_, _≤_, _<_}
 use native.Mathlib.Omega.{arith}
-use lib.ListN.{length, take, getD, set, length-set}
-use lib.Seq.{take-set-le}
+use lib.ListN.{length, take, drop, getD, set, length-set}
+use lib.Seq.{length-take-le, length-front}
 use borrow.Author.Needs.{needs}
+use borrow.Rule.Slice.PartMut.{midOf, putMid, mid-len, same-len-mid}
 use Rattle.listings.specs.Bytes.{Bytes}
-use Rattle.derangements.specs.Cycles.{image, lowered, raised}
 use Rattle.derangements.specs.Objects.{isDerangement}
 use Rattle.derangements.specs.Listing.{pair}
-use Rattle.derangements.proofs.Images.{Among}
-use Rattle.derangements.proofs.InPlace.{stored}
-use Rattle.derangements.proofs.Loops.{lowered-near, Added, add-start, add-step, add-end}
+use Rattle.derangements.proofs.Images.{Among, deranged}
+use Rattle.derangements.proofs.Loops.{added}
 use Rattle.derangements.proofs.cycles.add_pair.Statement.{statement}
 use Rattle.derangements.proofs.cycles.add_pair.Tie as tie
 
-abbrev Inv-loop : tie.InvT-loop
-Inv-loop c object₀ end i₀ object i = (i ≤ end) × Added c (end - 1) object₀ object i
-
-abbrev μ-loop : tie.MeasureT-loop
-μ-loop c object₀ end i₀ object i = i
-
--- what the loop starts with
-
-module _ (c : tie.Start Inv-loop μ-loop) where
+module _ (c : tie.Start) where
   abbrev x : Bytes
   x = c .args .object .now
+
+  abbrev end : ℕ
+  end = length x - 1
 
   abbrev m : ℕ
   m = length x - 1 - 1
 
-  abbrev b : Bytes
-  b = set x m 0
+  abbrev at : ℕ
+  at = c .args .c - 1
 
-  b-long : length b ≡ suc (suc m)
-  b-long = length-set x m 0 ∙ omega (arith, c .pre .0)
+  key : Among (suc m) (c .args .c)
+  key = omega (arith, c .pre .0, c .pre .1 .0)
 
-  same-front : take m b ≡ take (length x - 2) x
-  same-front = let e : m ≡ length x - 2 = omega (arith, c .pre .0) in take-set-le m x m 0 (omega arith) ∙ ap (λ k. take k x) e
+  whole : length x ≡ suc (suc m)
+  whole = omega (arith, c .pre .0)
 
-  b-object : isDerangement m (take m b) ≡ true
-  b-object = let e : length x - 2 ≡ m = omega (arith, c .pre .0) in rw same-front (subst (λ k. isDerangement k (take (length x - 2) x) ≡ true) e (c .pre .1 .1))
+  less : length x - 2 ≡ m
+  less = omega (arith, whole)
 
-  b-last : image b (suc m) ≤ m
-  b-last = rw (stored x m 0 (suc m) (omega (arith, c .pre .0)) refl) (omega arith)
+  front : length (take m x) ≡ m
+  front = length-take-le m x (omega (arith, whole))
 
-  keyed : Among (suc m) (c .args .c)
-  keyed = omega (arith, c .pre .0, c .pre .1 .0)
+  small : (i : ℕ) → i < length (take m x) → getD (take m x) i 0 ≤ m
+  small i h =
+      let d = deranged m (take m x) (subst (λ k. isDerangement k (take k x) ≡ true) less (c .pre .1 .1)) in
+      subst (λ k. getD (take m x) k 0 ≤ m) (omega arith) (d .by .values (suc i) (omega (arith, h, front)) .upto)
 
--- a number of the loop is at most m
-read-small : (c : tie.After-slice-known2 Inv-loop μ-loop) → let l = c .before .before .before .loop in getD (l .object) (c .before .lowered .result - 1) 0 ≤ length (c .before .before .before .before .before .args .object .now) - 1 - 1
-read-small c =
-    let s = c .before .before .before .before .before in
-    let l = c .before .before .before .loop in
-    let near = lowered-near (s .args .c) (l .i) in
-    let e = c .before .lowered .ensures in
-    l .inv .1 .small (c .before .lowered .result) (omega (arith, near .0, near .1 (keyed s .from) (omega arith), e))
+-- the labels have moved
+module _ (c : tie.After-relabel) where
+  abbrev start : tie.Start
+  start = c .before .before .before
 
-loop-again : tie.Need-loop-again Inv-loop μ-loop
-loop-again c =
-    let s = c .before .before .before .before .before .before in
-    let l = c .before .before .before .before .loop in
-    let a : ℕ = s .args .c in
-    let i : l .i ≡ suc (l .i - 1) = omega arith in
-    let is = c .raised .ensures ∙ ap (λ k. raised a (getD (l .object) (k - 1) 0)) (c .before .before .lowered .ensures ∙ ap (lowered a) i) in
-    (omega (arith, l .inv .0), add-step a (m s) (b s) (b-long s) (b-object s) (l .object) (l .i - 1) (subst (Added a (m s) (b s) (l .object)) i (l .inv .1)) (keyed s) (omega (arith, l .inv .0)) (c .raised .result) is)
+  abbrev l : Bytes
+  l = c .relabel .last .1 .1 .0
 
-returns : tie.Need-returns Inv-loop μ-loop
+  abbrev w : Bytes
+  w = l ++ drop (m start) (x start)
+
+  w-long : length w ≡ length (x start)
+  w-long = length-front (x start) l (m start) (c .relabel .kept .1 .1 .0)
+
+  mid-long : length (midOf (at start) (end start - at start) w) ≡ end start - at start
+  mid-long = mid-len (at start) (end start) w (omega (arith, w-long))
+
+-- and the places
+module _ (c : tie.After-shift-right) where
+  abbrev labels : tie.After-relabel
+  labels = c .before .before .before .before
+
+  abbrev p : Bytes
+  p = c .shift-right .last .0
+
+  abbrev z : Bytes
+  z = putMid (at (start labels)) (end (start labels) - at (start labels)) (w labels) p
+
+  z-long : length z ≡ length (x (start labels))
+  z-long = same-len-mid (at (start labels)) (end (start labels) - at (start labels)) (w labels) p (c .shift-right .kept .0) ∙ w-long labels
+
+returns : tie.Need-returns
 returns c =
-    let s = c .before .before .before in
-    let l = c .before .loop in
-    let a : ℕ = s .args .c in
-    let n : ℕ = length (x s) in
-    let none : l .i ≡ 0 = omega arith in
-    let last : n - 1 + 1 ≡ suc (suc (m s)) = omega (arith, s .pre .0) in
-    let whole : suc (suc (m s)) ≡ n = omega (arith, s .pre .0) in
-    ap (λ v. set (set (l .object) (a - 1) v) (n - 1) a) last
-    ∙ add-end a (m s) (b s) (b-long s) (b-object s) (l .object) (subst (Added a (m s) (b s) (l .object)) none (l .inv .1)) (keyed s) (a - 1) (n - 1) (omega (arith, keyed s)) (omega (arith, s .pre .0))
-    ∙ ap₂ (λ k y. pair k a y) whole (same-front s)
+    let e = c .before .before in
+    let s = start (labels e) in
+    let r = labels e .relabel in
+    let n : end s + 1 ≡ suc (suc (m s)) = omega (arith, s .pre .0) in
+    let last : end s ≡ suc (m s) = omega (arith, s .pre .0) in
+    ap₂ (λ v k. set (set (z e) (at s) v) k (s .args .c)) n last
+    ∙ added (m s) (end s) (s .args .c) (x s) last (whole s) (key s) (l (labels e)) (r .kept .1 .1 .0 ∙ front s) (λ i h. r .ensures i (rw (front s) h))
+    (p e) (e .shift-right .kept .0 ∙ mid-long (labels e)) (λ j h. e .shift-right .ensures j (rw (mid-long (labels e)) h))
+    ∙ ap₂ (λ k j. pair k (s .args .c) (take j (x s))) (sym (whole s)) (sym (less s))
 
 pub add-pair-spec : {M : Type 1} → statement M
 add-pair-spec =
     tie.close
     (tie.spec
-    Inv-loop
-    μ-loop
     (λ c. search needs)
     (λ c. search needs)
     (λ c. search needs)
     (λ c. search needs)
-    (λ c. search needs)
-    (λ c. let s = c .before in let e : suc (m s) ≡ length (x s) - 1 = omega (arith, s .pre .0) in (omega arith, subst (Added (s .args .c) (m s) (b s) (b s)) e (add-start (s .args .c) (m s) (b s) (b-long s) (b-object s) (b-last s))))
-    (λ c κs. search needs)
-    (λ c. let s = c .before .before .before .before in let l = c .before .before .loop in omega (arith, c .lowered .ensures, lowered-near (s .args .c) (l .i) .1 (keyed s .from) (omega arith)))
-    (λ c. search needs)
-    (λ c. search needs)
-    (λ c. let s = c .before .before .before .before .before in let l = c .before .before .before .loop in omega (arith, l .inv, l .inv .1 .long, c .before .lowered .ensures, lowered-near (s .args .c) (l .i) .0))
-    (λ c κs. omega (arith, read-small c, c .before .before .before .before .before .pre .0))
-    (λ c. search needs)
-    (λ c. let l = c .before .before .before .before .loop in omega (arith, l .inv .0, l .inv .1 .long))
-    (λ c. search needs)
-    loop-again
+    (λ c. sym (front (c .before .before)))
+    (λ c κs. λ _ i h. let s = c .before .before in omega (arith, small s i h, s .pre .0))
+    (λ c. omega (arith, key (c .before .before .before .before .before)))
+    (λ c. omega (arith, key (c .before .before .before .before .before)))
+    (λ c. omega (arith, w-long (c .before .before)))
+    (λ c κs. let e = c .before .before .before in omega (arith, mid-long e, key (start e)))
     (λ c. search needs)
     (λ c. search needs)
-    (λ c. let s = c .before .before .before in omega (arith, c .before .loop .inv .1 .long, keyed s))
-    (λ c. search needs)
-    (λ c. let s = c .before .before .before in simp length-set (omega (arith, c .before .loop .inv .1 .long)))
-    (λ c. simp length-set (omega (arith, c .before .loop .inv .1 .long, c .before .before .before .pre .0)))
+    (λ c. omega (arith, z-long (c .before .before), key (start (labels (c .before .before)))))
+    (λ c. simp length-set (omega (arith, z-long (c .before .before))))
+    (λ c. simp length-set (z-long (c .before .before)))
     returns)

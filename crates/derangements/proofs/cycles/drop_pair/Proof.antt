@@ -1,59 +1,88 @@
--- `derangements::cycles::drop_pair` meets its contract: the places passed are those without c and n, and the others are still as they were.
+-- `derangements::cycles::drop_pair` meets its contract: the places behind c move to the left, and then the labels above c down.
 -- Assumes nothing.
-use mathlib.Core.Path.{_≡_, refl, _∙_, subst}
-use Prim.Native.Nat.{_+_, _-_, _≤_}
+use mathlib.Core.Path.{_≡_, sym, _∙_, ap}
+use mathlib.Core.Bool.{false≢true}
+use mathlib.Core.List.{_++_}
+use Prim.Native.Nat.{ℕ, suc, _-_}
 use native.Mathlib.Omega.{arith}
-use lib.ListN.{length}
+use lib.ListN.{length, take, drop, getD}
+use lib.Seq.{length-take-le, length-front}
 use borrow.Author.Needs.{needs}
+use borrow.Rule.Slice.PartMut.{midOf, putMid, mid-len, same-len-mid}
 use Rattle.listings.specs.Bytes.{Bytes}
-use Rattle.derangements.proofs.Loops.{raised-near, Dropped, drop-start, drop-step, drop-end}
+use Rattle.derangements.specs.Cycles.{unpair}
+use Rattle.derangements.proofs.Images.{Among}
+use Rattle.derangements.proofs.Loops.{dropped}
 use Rattle.derangements.proofs.cycles.drop_pair.Statement.{statement}
 use Rattle.derangements.proofs.cycles.drop_pair.Tie as tie
 
-abbrev Inv-loop : tie.InvT-loop
-Inv-loop c object₀ left i₀ object i = (i ≤ left) × Dropped c object₀ object i
+module _ (c : tie.Start) where
+  abbrev x : Bytes
+  x = c .args .object .now
 
-abbrev μ-loop : tie.MeasureT-loop
-μ-loop c object₀ left i₀ object i = left - i
+  abbrev end : ℕ
+  end = length x - 1
 
-slice-read-lowered : tie.Need-slice-read-lowered Inv-loop μ-loop
-slice-read-lowered c =
-    let l = c .before .before .before .loop in
-    omega (arith, l .inv .1 .long, c .before .raised .ensures, raised-near (c .before .before .before .before .before .args .c) (l .i + 1))
+  abbrev m : ℕ
+  m = length x - 1 - 1
 
-loop-again : tie.Need-loop-again Inv-loop μ-loop
-loop-again c =
-    let a = c .before .before .before .before .before .before .args in
-    let l = c .before .before .before .before .loop in
-    (omega arith, drop-step (a .c) (a .object .now) (l .object) (l .i) (c .lowered .result) (l .inv .1) (omega arith) (c .lowered .ensures ∙ rw (c .before .before .raised .ensures)))
+  abbrev at : ℕ
+  at = c .args .c - 1
 
-returns : tie.Need-returns Inv-loop μ-loop
+  key : Among (suc m) (c .args .c)
+  key = omega (arith, c .pre .0, c .pre .1 .0)
+
+  whole : length x ≡ suc (suc m)
+  whole = omega (arith, c .pre .0)
+
+-- the places have moved
+module _ (c : tie.After-shift-left) where
+  abbrev start : tie.Start
+  start = c .before .before .before
+
+  abbrev p : Bytes
+  p = c .shift-left .last .0
+
+  abbrev z : Bytes
+  z = putMid (at start) (end start - at start) (x start) p
+
+  mid-long : length (midOf (at start) (end start - at start) (x start)) ≡ end start - at start
+  mid-long = mid-len (at start) (end start) (x start) (omega arith)
+
+  p-long : length p ≡ end start - at start
+  p-long = c .shift-left .kept .0 ∙ mid-long
+
+  z-long : length z ≡ length (x start)
+  z-long = same-len-mid (at start) (end start - at start) (x start) p (c .shift-left .kept .0)
+
+  front : length (take (m start) z) ≡ m start
+  front = length-take-le (m start) z (omega (arith, z-long))
+
+returns : tie.Need-returns
 returns c =
-    let s = c .before .before .before in
-    let x : Bytes = s .args .object .now in
-    let l = c .before .loop in
-    let all : l .i ≡ length x - 2 = omega (arith, l .inv .0) in
-    drop-end (length x) (s .args .c) x (l .object) (s .pre .0 .0) refl (s .pre .1) (subst (Dropped (s .args .c) x (l .object)) all (l .inv .1))
+    let e = c .before .before .before .before .before .before in
+    let s = start e in
+    let r = c .before .before .relabel in
+    let n : suc (suc (m s)) ≡ length (x s) = sym (whole s) in
+    let less : length (x s) - 2 ≡ m s = omega (arith, whole s) in
+    ap (λ k. take k (r .last .1 .1 .0 ++ drop (m s) (z e))) less
+    ∙ dropped (m s) (end s) (s .args .c) (x s) (omega (arith, s .pre .0)) (whole s) (key s) (p e) (p-long e) (λ j h. e .shift-left .ensures j (rw (mid-long e) h))
+    (r .last .1 .1 .0) (drop (m s) (z e)) (r .kept .1 .1 .0 ∙ front e) (λ i h. r .ensures i (rw (front e) h)) (s .pre .1 .1 ∙ ap (λ k. getD (x s) (k - 1) 0) (whole s))
+    ∙ ap (λ k. unpair k (x s)) n
 
 pub drop-pair-spec : {M : Type 1} → statement M
 drop-pair-spec =
     tie.close
     (tie.spec
-    Inv-loop
-    μ-loop
     (λ c. search needs)
     (λ c. search needs)
-    (λ c. (omega arith, drop-start (c .before .args .c) (c .before .args .object .now)))
+    (λ c. omega (arith, key (c .before)))
+    (λ c. omega (arith, key (c .before)))
     (λ c. search needs)
-    (λ c κs. search needs)
-    (λ c. omega (arith, c .raised .ensures, raised-near (c .before .before .before .before .args .c) (c .before .before .loop .i + 1)))
+    (λ c κs. let s = c .before .before in omega (arith, mid-len (at s) (end s) (x s) (omega arith), key s))
     (λ c. search needs)
-    slice-read-lowered
-    (λ c κs. search needs)
-    (λ c. search needs)
-    (λ c. let l = c .before .before .before .before .loop in omega (arith, l .inv .1 .long))
-    (λ c. search needs)
-    (λ c. search needs)
-    loop-again
-    (λ c. c .before .loop .inv .1 .long)
+    (λ c. omega (arith, z-long (c .before .before)))
+    (λ c. sym (front (c .before .before .before)))
+    (λ c κs. λ e. absurd (false≢true e))
+    (λ c. let e = c .before .before .before .before .before .before in length-front (z e) (c .before .before .relabel .last .1 .1 .0) (m (start e)) (c .before .before .relabel .kept .1 .1 .0) ∙ z-long e)
     returns)

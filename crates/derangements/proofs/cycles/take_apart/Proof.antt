@@ -19,7 +19,7 @@ module _ (c : tie.Start) where
   abbrev n : ℕ
   n = length x
 
-  key : Among n (getD x (n - 1) 0)
+  key : Among (n - 1) (getD x (n - 1) 0)
   key = last-value n x (c .pre .0 .0) (c .pre .1)
 
   front : length (take (n - 1) x) ≡ n - 1
@@ -52,7 +52,7 @@ take-apart-spec =
     (λ c. omega (arith, key (c .before .before), c .before .before .pre .0))
     (λ c. omega (arith, key (c .before .before)))
     (λ c. omega (arith, key (c .before .before .before)))
-    (λ c κs. (c .before .before .before .before .before .pre .0, refl))
+    (λ c κs. let s = c .before .before .before .before .before in (s .pre .0, (omega (arith, key s, s .pre .0), refl)))
     (λ c. search needs)
     (λ c. let s = c .before .before .before .before .before .before .before .before in omega (arith, key s, s .pre .0))
     (λ c. search needs)
