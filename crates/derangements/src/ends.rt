@@ -8,6 +8,7 @@ ghost use Rattle.listings.specs.Places.{First, Last};
 ghost use Rattle.derangements.specs.Listing.{derangements};
 use listings::fill_up;
 
+// The earliest: each place holds the next one's number, and the last 1.
 fn write_first(object: &mut [u8])
     requires { ⌜ length (now object) ≤ places ⌝ }
     requires { ⌜ (length (now object) ≡ 1 → ⊥) ⌝ }
@@ -21,7 +22,7 @@ fn write_first(object: &mut [u8])
     fill_up(&mut object[..end], 2);
 }
 
-// The last two places hold each other's numbers, in front of the latest of the others.
+// The latest: the last two places hold each other's numbers, behind the latest of the others.
 fn write_last(object: &mut [u8])
     requires { ⌜ length (now object) ≤ places ⌝ }
     requires { ⌜ (length (now object) ≡ 1 → ⊥) ⌝ }
