@@ -1,6 +1,6 @@
 -- From the answer and the bytes of a call of `families` to the code, the bytes and the value that an exported call gives.
 -- Assumes nothing.
-use mathlib.Core.Path.{_≡_, refl, _∙_, sym, ap}
+use mathlib.Core.Path.{_≡_, refl, _∙_, sym, ap, subst}
 use Prim.Native.Nat.{ℕ}
 use lib.IntN.{ℤ}
 use borrow.Author.Tests.{ne-eqb}
@@ -13,7 +13,9 @@ use Rattle.families.specs.Codes.{codeOf, valueOf, Coded}
 use Rattle.walk.specs.declared.Way.{Way}
 use Rattle.walk.specs.Walks.{Kept, Outcome, stepKept}
 use Rattle.jump.specs.Jumps.{jump}
-use Rattle.arrangements.specs.Told.{plain, told, Valued, valued, CodedStep, toldStep}
+use Rattle.checker.specs.declared.Checked.{Checked}
+use Rattle.checker.specs.Checking.{Says}
+use Rattle.arrangements.specs.Told.{plain, told, Valued, valued, CodedStep, toldStep, checkTold, ToldCheck}
 
 -- a code that is neither 20 nor 21 is told as it is
 pub others : (code : ℕ) → (code ≡ 20 → ⊥) → (code ≡ 21 → ⊥) → code ≡ plain code
@@ -56,3 +58,8 @@ telling-jump same f d x said = telling-left (said ∙ ap (λ (b : Lent). jump f 
 pub telling-step : {b b' : Lent} → b ≡ b' → (f : Family) {a : Answer} {left : Kept} (way : Way) (size : ℕ) (w : Kept) → _≡_ {A = Outcome} (a, left) (stepKept way f b size w)
     → {r code : ℕ} → code ≡ codeOf a → r ≡ plain code → _≡_ {A = CodedStep} (r, left) (toldStep (stepKept way f b' size w))
 telling-step same f way size w said = telling-left (said ∙ ap {B = Outcome} (λ (b : Lent). stepKept way f b size w) same)
+
+-- a check: what is told is told of the answer that it gave
+pub telling-check : {b b' : Lent} → b ≡ b' → (f : Family) (m : ℕ) (s : Bytes) (v : ℕ) {r a : Checked} → r ≡ a → Says f b m s r → ToldCheck f b' m s v (checkTold a v)
+telling-check same f m s v {a = a} found says =
+    record { answer = a; says = subst (λ (b : Lent). Says f b m s a) same (subst (Says f _ m s) found says); told = refl }

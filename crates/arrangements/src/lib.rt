@@ -10,7 +10,8 @@ ghost use Rattle.families.specs.Codes.{Coded};
 ghost use Rattle.walk.specs.declared.Way.the-variants.{Forth, Back};
 ghost use Rattle.walk.specs.Walks.{kept, stepKept};
 ghost use Rattle.jump.specs.Jumps.{jump as jumpOf};
-ghost use Rattle.arrangements.specs.Told.{plain as plainly, told, Valued, valued, CodedStep, toldStep};
+ghost use Rattle.arrangements.specs.Told.{plain as plainly, told, Valued, valued, CodedStep, toldStep, ToldCheck};
+use checker::Checked;
 use families::Counted;
 use families::Family;
 use families::Length;
@@ -122,6 +123,28 @@ pub extern "C" fn arrangement_jump(f: Family, lists: &Lists, d: i64, object: &mu
     ensures { λ r. ⌜ _≡_ {A = Coded} (r, now (object .exit)) (told (jumpOf f (lent (map now (now (lists .entry)))) d (now (object .entry)))) ⌝ }
 {
     plain(jump::code(jump::jump(f, by_value(lists), d, object)))
+}
+
+// A check leaves the place open where several are wrong, and so does its contract: what is told is told of some answer that a check may give.
+#[no_mangle]
+pub extern "C" fn arrangement_check(
+    f: Family,
+    lists: &Lists,
+    entries: u64,
+    bytes: &[u8],
+    place: &mut u64,
+) -> u32
+    ensures { λ r. ⌜ ToldCheck f (lent (map now (now (lists .entry)))) entries (now (bytes .entry)) (now (place .entry)) (r, now (place .exit)) ⌝ }
+{
+    let answer = checker::check(f, by_value(lists), entries, bytes);
+    match answer {
+        Checked::Accepted => 0,
+        Checked::Wrong(wrong) => {
+            *place = wrong;
+            101
+        }
+        Checked::Refused(q) => q as u32,
+    }
 }
 
 // A step of a walk on lent bytes and the lent number kept of them.

@@ -1,6 +1,8 @@
-// The limits of paper 01's table of families, as specs/Limits.antt has them; and sums of bytes, which the counts, the kinds and the questions share.
+// The limits of paper 01's table of families, as specs/Limits.antt has them; sums of bytes, which the counts, the kinds and the questions share; and the
+// test of a product, for bytes that are many parts of one length.
 ghost use mathlib.Core.Path.{_≡_};
-ghost use Prim.Native.Nat.{_+_, _<_, _^_, min};
+ghost use Prim.Native.Nat.{_+_, _*_, _<_, _^_, min};
+ghost use lib.Dec.{eqb};
 ghost use Rattle.basics.specs.Sums.{total};
 
 // "A family has no more than 80 places".
@@ -51,4 +53,17 @@ pub fn sum_to_limit(limit: u64, bytes: &[u8]) -> u64
         i += 1;
     }
     s
+}
+
+// Is whole the product of many and size? Nothing is multiplied, since the product of two lengths may be too large.
+pub fn is_product(whole: usize, many: usize, size: usize) -> bool
+    ensures { λ r. ⌜ r ≡ eqb whole (many * size) ⌝ }
+{
+    if size == 0 {
+        return whole == 0;
+    }
+    if whole % size != 0 {
+        return false;
+    }
+    whole / size == many
 }

@@ -1,9 +1,10 @@
-// What every kind of family shares in code: the answer of a step, and the parts of an object that start over.
+// What every kind of family shares in code: the answer of a step, the parts of an object that start over, and whether two objects are the same.
 ghost use mathlib.Core.Path.{_≡_};
 ghost use Prim.Native.Nat.{_+_, _≤_};
 ghost use lib.ListN.{length, replicate, take};
 ghost use Rattle.basics.specs.Limits.{longestObject};
 ghost use Rattle.basics.specs.Sums.{range};
+ghost use Rattle.listings.specs.Bytes.{same as sameBytes};
 use basics::LONGEST_OBJECT;
 
 // What NEXT and PREVIOUS answer: the object was replaced by its neighbour, or there is none and no byte changed.
@@ -45,6 +46,22 @@ pub fn copy(part: &mut [u8], from: &[u8])
         part[i] = from[i];
         i += 1;
     }
+}
+
+// Are two slices of one length the same? Both are read to the end: where they mostly are, a loop without an exit takes many bytes at a time.
+pub fn same(x: &[u8], y: &[u8]) -> bool
+    requires { ⌜ length (now x) ≡ length (now y) ⌝ }
+    ensures { λ r. ⌜ r ≡ sameBytes (now (x .entry)) (now (y .entry)) ⌝ }
+{
+    let mut equal = true;
+    let mut i = 0;
+    while i < x.len() {
+        if x[i] != y[i] {
+            equal = false;
+        }
+        i += 1;
+    }
+    equal
 }
 
 // The bytes again, in an array with room for any object.

@@ -1,19 +1,14 @@
--- A code is read by its number, a list of codes by its first, and a product by division.
+-- A code is read by its number, and a list of codes by its first.
 -- Assumes nothing.
-use mathlib.Core.Path.{_≡_, refl, sym, _∙_, ap}
+use mathlib.Core.Path.{_≡_, refl, _∙_, ap}
 use mathlib.Core.Bool.{false}
 use mathlib.Core.List.{List}
-use mathlib.Core.Logic.{⊎-elim}
-use Prim.Native.Nat.{ℕ, zero, suc, _+_, _*_, _/_, _%_, _≤_, _<_}
-use native.Mathlib.Omega.{arith}
-use native.Mathlib.Nat.{mul-mod-left, mul-div-cancel, div-add-mod', suc-mul, mul-le-mul-right}
-use lib.Dec.{eqb}
+use Prim.Native.Nat.{ℕ, zero, suc, _≤_, _<_}
 use lib.ListN.{length, getD, drop}
 use lib.Seq.{drop-cons}
-use borrow.Author.Tests.{eq-eqb, ne-eqb, eqb-true, eqb-false, le-leb, lt-leb}
+use borrow.Author.Tests.{le-leb, lt-leb}
 use Rattle.listings.specs.Bytes.{Bytes}
 use Rattle.listings.specs.Calls.{Call, FIRST, Answer, Said}
-use Rattle.basics.proofs.Bools.{true-or-false}
 use Rattle.families.specs.declared.Family.{Family}
 use Rattle.families.specs.Table.{Lent}
 use Rattle.families.specs.Calls.{respond}
@@ -49,19 +44,3 @@ module _ (cs : List ℕ) (i : ℕ) (inside : i < length cs) where
   pub known-on : 1 ≤ getD cs i 0 → getD cs i 0 ≤ 5 → known (drop i cs) ≡ known (drop (suc i) cs)
   unfolding known
   known-on l h = rw (drop-cons cs i 0 inside, le-leb 1 (getD cs i 0) l, le-leb (getD cs i 0) 5 h)
-
--- one turn's part of a product is within it
-pub turn-within : (i n size : ℕ) → i < n → i * size + size ≤ n * size
-turn-within i n size h = rw suc-mul at (mul-le-mul-right {m = suc i} size h)
-
--- what leaves a remainder is no product, and what leaves none is one if its quotient is the other factor
-pub remainder-none : (whole many size : ℕ) → (whole % size ≡ 0 → ⊥) → eqb whole (many * size) ≡ false
-remainder-none whole many size h = ne-eqb whole (many * size) (λ e. h (ap (λ (w : ℕ). w % size) e ∙ mul-mod-left many size))
-
-pub quotient-tells : (whole many size : ℕ) → 0 < size → whole % size ≡ 0 → eqb (whole / size) many ≡ eqb whole (many * size)
-quotient-tells whole many size pos none =
-    let back : whole / size * size ≡ whole = omega (arith, div-add-mod' whole size) in
-    ⊎-elim
-    (λ t. t ∙ sym (eq-eqb _ _ (sym back ∙ ap (λ (q : ℕ). q * size) (eqb-true _ _ t))))
-    (λ t. t ∙ sym (ne-eqb _ _ (λ e. eqb-false _ _ t (ap (λ (w : ℕ). w / size) e ∙ mul-div-cancel many pos))))
-    (true-or-false (eqb (whole / size) many))

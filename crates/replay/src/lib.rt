@@ -3,7 +3,6 @@
 ghost use mathlib.Core.Path.{_≡_};
 ghost use mathlib.Core.List.{_++_, map};
 ghost use Prim.Native.Nat.{_+_, _*_, _≤_};
-ghost use lib.Dec.{eqb};
 ghost use lib.ListN.{length, take};
 ghost use Rattle.families.specs.Table.{lent};
 ghost use Rattle.families.specs.Calls.{respond, run as heard};
@@ -35,19 +34,6 @@ fn known(calls: &[u8]) -> bool
         i += 1;
     }
     true
-}
-
-// Is whole the product of many and size?
-fn is_product(whole: usize, many: usize, size: usize) -> bool
-    ensures { λ r. ⌜ r ≡ eqb whole (many * size) ⌝ }
-{
-    if size == 0 {
-        return whole == 0;
-    }
-    if whole % size != 0 {
-        return false;
-    }
-    whole / size == many
 }
 
 // One call, and its answer's code. What is not named is FIRST, as in `callOf`; past `known` that is 1 alone.
@@ -124,7 +110,7 @@ pub fn replay<'a>(
     if answers.len() != calls.len() {
         return Replayed::Misfit;
     }
-    if !is_product(trail.len(), calls.len(), object.len()) {
+    if !basics::is_product(trail.len(), calls.len(), object.len()) {
         return Replayed::Misfit;
     }
     run(calls, ranks, f, lists, object, answers, trail);

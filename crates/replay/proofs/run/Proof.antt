@@ -9,7 +9,7 @@ use native.Mathlib.Numerals.{add-one}
 use lib.ListN.{length, length-set}
 use denote.Ref.{now}
 use Rattle.families.specs.Table.{lent}
-use Rattle.replay.proofs.Coding.{turn-within}
+use Rattle.basics.proofs.Products.{turn-within}
 use Rattle.replay.proofs.Walk.{Standing, start, turn, over}
 use Rattle.replay.proofs.run.Statement.{statement}
 use Rattle.replay.proofs.run.Tie as tie

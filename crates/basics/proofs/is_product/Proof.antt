@@ -1,14 +1,14 @@
--- `replay::is_product` meets its contract: a whole is a product if it leaves no remainder and its quotient is the other factor.
+-- `basics::is_product` meets its contract: a whole is a product if it leaves no remainder and its quotient is the other factor.
 -- Assumes nothing.
 use native.Mathlib.Nat.{mul-zero}
 use lib.Dec.{eqb}
 use Prim.Native.Nat.{ℕ, _*_}
 use mathlib.Core.Path.{sym, _∙_, ap}
 use native.Mathlib.Omega.{arith}
-use Rattle.replay.proofs.Coding.{remainder-none, quotient-tells}
+use Rattle.basics.proofs.Products.{remainder-none, quotient-tells}
 use borrow.Author.Needs.{needs}
-use Rattle.replay.proofs.is_product.Statement.{statement}
-use Rattle.replay.proofs.is_product.Tie as tie
+use Rattle.basics.proofs.is_product.Statement.{statement}
+use Rattle.basics.proofs.is_product.Tie as tie
 
 returns : tie.Need-returns
 returns c = ap (λ (n : ℕ). eqb (c .before .args .whole) n) (sym (ap (λ (s : ℕ). c .before .args .many * s) (c .if1 .taken) ∙ mul-zero (c .before .args .many)))
