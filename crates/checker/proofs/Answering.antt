@@ -2,7 +2,7 @@
 -- Assumes nothing.
 use mathlib.Core.Path.{_≡_, refl, sym, _∙_, ap}
 use mathlib.Core.Bool.{true, false}
-use mathlib.Core.Option.{Option, none, some, Option·some-injective, Option·some-ne-none}
+use mathlib.Core.Option.{Option, none, some, Option·some-ne-none}
 use mathlib.Core.List.{List, [], _∷_}
 use Prim.Native.Nat.{ℕ, _*_}
 use native.Mathlib.Omega.{arith}
@@ -21,7 +21,7 @@ use Rattle.families.proofs.Verdicts.{first-passes}
 use Rattle.families.proofs.Going.{length-known, object-here, long-here}
 use Rattle.families.proofs.Answered.{missed-where-refused, opens-for}
 use Rattle.checker.specs.declared.Checked.{Checked}
-use Rattle.checker.specs.Checking.{cutInto, entriesOf, checkRefusal, WrongAt, Says}
+use Rattle.checker.specs.Checking.{cutInto, entriesOf, checkRefusal, Says}
 use Rattle.checker.specs.inner.Differences.{firstWrong}
 use Rattle.checker.proofs.FirstWrong.{none-wrong, some-wrong}
 
@@ -30,16 +30,30 @@ unfolding unlessRefused
 measured-refused none m e = let z : _≡_ {A = ℕ} 0 1 = cc in absurd (omega arith)
 measured-refused (some p) m e = cc
 
+-- question 12 alone, for m entries of so many bytes, in size bytes
+abbrev pub twelve : ℕ → ℕ → ℕ → List Question
+twelve m long size = always 12 (eqb size (m * long)) ∷ []
+
+-- the questions about the family come first, and 12 behind them
+module _ (f : Family) (b : Lent) (m size : ℕ) where
+  pub family-missed : {q : ℕ} → firstNo (opening FIRST f b) ≡ some q → checkRefusal f b m size ≡ some q
+  unfolding checkRefusal
+  family-missed e = after-no (opening FIRST f b) (twelve m (objectLength f b) size) e
+
+  pub family-passed : firstNo (opening FIRST f b) ≡ none → checkRefusal f b m size ≡ firstNo (twelve m (objectLength f b) size)
+  unfolding checkRefusal
+  family-passed e = after-pass (opening FIRST f b) (twelve m (objectLength f b) size) e
+
 module _ (f : Family) (b : Lent) (m : ℕ) (s : Bytes) where
   -- a question about the family that is missed is missed by the check
-  family-missed : {q : ℕ} → firstNo (opening FIRST f b) ≡ some q → Says f b m s (Checked.Refused q)
-  unfolding Says checkRefusal
-  family-missed e = after-no (opening FIRST f b) (always 12 (eqb (length s) (m * objectLength f b)) ∷ []) e
+  refused-so : {q : ℕ} → firstNo (opening FIRST f b) ≡ some q → Says f b m s (Checked.Refused q)
+  unfolding Says
+  refused-so e = family-missed f b m (length s) e
 
   -- the length of an object was refused
   pub no-length : {q : ℕ} → REFUSED q ≡ measured f b → Says f b m s (Checked.Refused q)
   unfolding measured opening
-  no-length e = family-missed (after-no (askedOfAll f b) (put FIRST 4 (ltb 0 (countOf f b)) ∷ []) (measured-refused (firstNo (askedOfAll f b)) (objectLength f b) e))
+  no-length e = refused-so (after-no (askedOfAll f b) (put FIRST 4 (ltb 0 (countOf f b)) ∷ []) (measured-refused (firstNo (askedOfAll f b)) (objectLength f b) e))
 
   -- FIRST was refused, on a buffer of an object's length
   pub no-first : (x : Bytes) {q : ℕ} {y : Bytes} → MEASURED (length x) ≡ measured f b → _≡_ {A = Said} (REFUSED q, y) (respond FIRST f b x) → Says f b m s (Checked.Refused q)
@@ -53,18 +67,14 @@ module _ (f : Family) (b : Lent) (m : ℕ) (s : Bytes) where
       go none pass = absurd (Option·some-ne-none q (sym missed ∙ first-passes f b (length x) (isObject f b x) pass (length-known f b told .long)))
       go (some p) first =
           let all = after-no (opening FIRST f b) (closingFor FIRST (countOf f b) (objectLength f b) (length x) (isObject f b x)) first in
-          family-missed (first ∙ sym all ∙ missed)
+          refused-so (first ∙ sym all ∙ missed)
 
   -- the first object stands in the buffer, so the questions about the family have passed
   module _ {x : Bytes} (first : First (listing f b) x) where
-    abbrev twelve : ℕ → List Question
-    twelve long = always 12 (eqb (length s) (m * long)) ∷ []
-
-    asks-twelve : checkRefusal f b m (length s) ≡ firstNo (twelve (length x))
-    unfolding checkRefusal
+    asks-twelve : checkRefusal f b m (length s) ≡ firstNo (twelve m (length x) (length s))
     asks-twelve =
-        after-pass (opening FIRST f b) (twelve (objectLength f b)) (opens-for f b x (object-here f b 0 first))
-        ∙ ap (λ (long : ℕ). firstNo (twelve long)) (sym (long-here f b 0 first))
+        family-passed f b m (length s) (opens-for f b x (object-here f b 0 first))
+        ∙ ap (λ (long : ℕ). firstNo (twelve m long (length s))) (sym (long-here f b 0 first))
 
     pub no-product : eqb (length s) (m * length x) ≡ false → Says f b m s (Checked.Refused 12)
     unfolding Says

@@ -1,11 +1,12 @@
 -- What a check says, for any family, lists, number of entries and bytes: what it accepts and refuses, how a place is wrong, and that our own list passes.
 -- Assumes nothing.
-use mathlib.Core.Path.{_≡_, refl, sym, _∙_, ap, subst}
+use mathlib.Core.Path.{_≡_, refl, sym, _∙_, ap, ap₂, subst}
 use mathlib.Core.Logic.{_⊎_, inl, inr, _↔_}
 use mathlib.Core.Bool.{Bool, true, false}
 use mathlib.Core.Option.{Option, none, some, Option·some-injective, Option·none-ne-some, Option·some-ne-none}
 use mathlib.Core.List.{List, [], _∷_, flatten, List·Memᴰ}
 use Prim.Native.Nat.{ℕ, _*_, _≤_, _<_, _^_}
+use native.Mathlib.Nat.{mul-zero}
 use native.Mathlib.Decide.{decLt}
 use native.Mathlib.Omega.{arith}
 use lib.Dec.{eqb}
@@ -13,7 +14,7 @@ use lib.ListN.{length, getElem?, getD, replicate}
 use borrow.Author.Tests.{eq-eqb}
 use Rattle.listings.specs.Bytes.{Bytes}
 use Rattle.listings.specs.Places.{At}
-use Rattle.listings.specs.Calls.{FIRST, NEXT, Question, firstNo, responses}
+use Rattle.listings.specs.Calls.{FIRST, NEXT, firstNo, responses}
 use Rattle.listings.specs.Runs.{heard, untilEnd}
 use Rattle.listings.proofs.PlaceRules.{at-exists, member-at}
 use Rattle.listings.proofs.Standing.{getElem-none, getElem-some}
@@ -22,16 +23,17 @@ use Rattle.families.specs.Table.{Lent}
 use Rattle.families.specs.Families.{always, objectLength, listing, countOf}
 use Rattle.families.specs.Questions.{opening, closingFor, refusal}
 use Rattle.families.specs.Calls.{run}
-use Rattle.families.proofs.QuestionLaws.{past, none-left, after-pass, after-no}
+use Rattle.families.proofs.QuestionLaws.{past, none-left, after-no}
 use Rattle.families.proofs.FamilyFacts.{rank-is-place}
 use Rattle.families.proofs.Verdicts.{opened}
 use Rattle.families.proofs.Going.{object-here, long-here}
 use Rattle.families.proofs.Refusals.{Numbered, refusal-numbered}
-use Rattle.families.proofs.Answered.{first-answers}
+use Rattle.families.proofs.Answered.{first-answers, opens-for}
 use Rattle.families.proofs.Demand.{first-on, unheard}
 use Rattle.checker.specs.declared.Checked.{Checked}
-use Rattle.checker.specs.Checking.{entriesOf, checkRefusal, WrongAt, Says}
+use Rattle.checker.specs.Checking.{cutInto, entriesOf, checkRefusal, WrongAt, Says}
 use Rattle.checker.proofs.Entries.{many, joined-long, cut-joined}
+use Rattle.checker.proofs.Answering.{family-missed, family-passed}
 
 missed-twelve : (t : Bool) {q : ℕ} → firstNo (always 12 t ∷ []) ≡ some q → q ≡ 12
 unfolding firstNo
@@ -114,17 +116,34 @@ module _ (f : Family) (b : Lent) where
 
   -- what a check is refused by is the number of a question that calls are put, or 12
   pub check-numbered : (m size : ℕ) {q : ℕ} → checkRefusal f b m size ≡ some q → Numbered q ⊎ (q ≡ 12)
-  unfolding checkRefusal refusal
+  unfolding refusal
   check-numbered m size {q} e = go (firstNo (opening FIRST f b)) refl
     where
-      twelve : List Question
-      twelve = always 12 (eqb size (m * objectLength f b)) ∷ []
-
       go : (o : Option ℕ) → firstNo (opening FIRST f b) ≡ o → Numbered q ⊎ (q ≡ 12)
-      go none pass = inr (missed-twelve (eqb size (m * objectLength f b)) (sym (after-pass (opening FIRST f b) twelve pass) ∙ e))
+      go none pass = inr (missed-twelve (eqb size (m * objectLength f b)) (sym (family-passed f b m size pass) ∙ e))
       go (some p) first =
-          let same : some p ≡ some q = sym (after-no (opening FIRST f b) twelve first) ∙ e in
+          let same : some p ≡ some q = sym (family-missed f b m size first) ∙ e in
           inl (refusal-numbered FIRST f b 0 false (after-no (opening FIRST f b) (closingFor FIRST (countOf f b) (objectLength f b) 0 false) first ∙ same))
+
+  -- of an object that is the empty string, one entry is accepted, and no other number
+  pub empty-objects : listing f b ≡ [] ∷ [] → (m : ℕ) {r : Checked} → Says f b m [] r → (r ≡ Checked.Accepted) ↔ (m ≡ 1)
+  unfolding entriesOf cutInto
+  empty-objects alone m says = (
+    (λ e. sym (many m (objectLength f b) []) ∙ ap length (accepts-exactly m [] says .0 e .1 ∙ alone)),
+    (λ e. accepts-exactly m [] says .1 (pass, ap₂ (λ (n long : ℕ). cutInto n long []) e nothing ∙ sym alone)),
+  )
+    where
+      here : At (listing f b) [] 0
+      here = ap (λ (l : List Bytes). getElem? l 0) alone
+
+      nothing : objectLength f b ≡ 0
+      nothing = sym (long-here f b 0 here)
+
+      product : eqb 0 (m * objectLength f b) ≡ true
+      product = eq-eqb 0 (m * objectLength f b) (sym (ap (λ (n : ℕ). m * n) nothing ∙ mul-zero m))
+
+      pass : checkRefusal f b m 0 ≡ none
+      pass = family-passed f b m 0 (opens-for f b [] (object-here f b 0 here)) ∙ past _ [] product ∙ none-left
 
   -- our own list
 
@@ -147,12 +166,12 @@ module _ (f : Family) (b : Lent) where
 
     -- what FIRST and NEXT until END give, one behind the other, is accepted
     pub own-list : (m : ℕ) (l : List Bytes) → untilEnd (run (FIRST ∷ replicate m NEXT) f b s) ≡ some l → {r : Checked} → Says f b (length l) (flatten l) r → r ≡ Checked.Accepted
-    unfolding checkRefusal entriesOf
+    unfolding entriesOf
     own-list m l given says =
         let all = whole m l given in
         let alike : (x : Bytes) → List·Memᴰ x l → length x ≡ objectLength f b = λ x k. let (p, h) = member-at k in long-here f b p (subst (λ (t : List Bytes). At t x p) all h) in
         let product = eq-eqb _ _ (joined-long (objectLength f b) l alike) in
         accepts-exactly (length l) (flatten l) says .1 (
-          after-pass (opening FIRST f b) _ admitted ∙ past _ [] product ∙ none-left,
+          family-passed f b (length l) (length (flatten l)) admitted ∙ past _ [] product ∙ none-left,
           cut-joined (objectLength f b) l alike ∙ all,
         )

@@ -7,7 +7,7 @@ use mathlib.Core.List.{List}
 use Prim.Native.Nat.{ℕ, suc, _*_, _<_}
 use native.Mathlib.Decide.{decLt}
 use native.Mathlib.Omega.{arith}
-use lib.ListN.{length, take, drop, getElem?}
+use lib.ListN.{length, take, drop}
 use Rattle.listings.specs.Bytes.{Bytes, same}
 use Rattle.listings.specs.Places.{At, First}
 use Rattle.listings.proofs.SameBytes.{same-eq, same-ne}

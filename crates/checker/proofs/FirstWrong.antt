@@ -1,12 +1,12 @@
 -- What the first wrong place says: all before it agree, and it is wrong; none is, exactly where the lists are equal.
 -- Assumes nothing.
-use mathlib.Core.Path.{_≡_, refl, sym, _∙_, ap, ap₂}
+use mathlib.Core.Path.{_≡_, refl, ap, ap₂}
 use mathlib.Core.Bool.{Bool, true, false, cond}
 use mathlib.Core.Option.{Option, none, some, Option·map, Option·some-injective, Option·none-ne-some, Option·some-ne-none}
 use mathlib.Core.List.{List, [], _∷_}
 use Prim.Native.Nat.{ℕ, zero, suc, _<_}
 use native.Mathlib.Omega.{arith}
-use lib.ListN.{length, getElem?}
+use lib.ListN.{getElem?}
 use Rattle.basics.proofs.Bools.{fails}
 use Rattle.listings.specs.Bytes.{Bytes, same}
 use Rattle.listings.proofs.SameBytes.{same-eq, same-ne, eq-same}

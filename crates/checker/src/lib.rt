@@ -80,7 +80,7 @@ fn check_from<'a>(
     let found = compare(f, lists, entries, bytes, object);
     match found {
         Difference::None => Checked::Accepted,
-        Difference::At(place) => Checked::Wrong(place),
+        Difference::At(wrong) => Checked::Wrong(wrong),
     }
 }
 

@@ -1,6 +1,5 @@
 -- `checker::check_in` meets its contract: FIRST writes the object at place 0, or its refusal is the check's.
 -- Assumes nothing.
-use mathlib.Core.Path.{sym, _∙_, ap}
 use borrow.Author.Needs.{needs}
 use Rattle.families.proofs.Going.{starts}
 use Rattle.checker.proofs.Answering.{no-first}
