@@ -16,9 +16,9 @@ static inline before_family before_family_of(arrangement_family f) {
     return g;
 }
 
-/* Can it be asked about this family? It has kinds 1 to 6. */
+/* Can it be asked about this family? It has kinds 1 to 7. */
 static inline int before_answers(arrangement_family f) {
-    return f.kind <= 6;
+    return f.kind <= 7;
 }
 #else
 typedef arrangement_family before_family;

@@ -1,7 +1,8 @@
 /* Times COUNT, NEXT, PREVIOUS, RANK and UNRANK on random objects, in the library and beside it, a walk's steps beside NEXT or PREVIOUS followed by
- * RANK, and jumps beside COUNT, RANK and UNRANK, in one run. With `count` as its argument it runs every measurement once, for callgrind to count
- * instructions. Prints one line a measurement: family, call, who, nanoseconds a call. An earlier build of the library may be linked beside today's,
- * its functions renamed (`before.h`), for the calls alone. */
+ * RANK, jumps beside COUNT, RANK and UNRANK, and the check of a listing beside NEXT from object to object, in one run. With `count` as its argument it
+ * runs every measurement once, for callgrind to count instructions. Prints one line a measurement: family, call, who, nanoseconds a call, or an entry
+ * of the list that is checked; and of each list its entries. An earlier build of the library may be linked beside today's, its functions renamed
+ * (`before.h`), for the calls alone. */
 #include "../include/arrangements.h"
 #include "before.h"
 #include "others.h"
@@ -13,6 +14,7 @@
 #include <valgrind/callgrind.h>
 
 enum { POOL = 256, PLACES = 80 };
+enum { MOST_WHOLE = 100000, BEGINNING = 10000, ROOM = 1 << 20 }; /* objects of a listing that is checked whole, or else of its beginning; bytes */
 
 typedef struct {
     const char *name; /* the family, as the table shows it */
@@ -23,10 +25,10 @@ typedef struct {
     int ranks; /* does the count fit? */
 } Family;
 
-typedef enum { COUNT, NEXT, PREVIOUS, RANK, UNRANK, WALK_NEXT, WALK_PREVIOUS, JUMP } Call;
-typedef enum { LIBRARY, BEFORE, PLAIN, CPP, GSL, FRESH } Who; /* FRESH: other calls in place of a walk's step or a jump */
+typedef enum { COUNT, NEXT, PREVIOUS, RANK, UNRANK, WALK_NEXT, WALK_PREVIOUS, JUMP, CHECK } Call;
+typedef enum { LIBRARY, BEFORE, PLAIN, CPP, GSL, FRESH } Who; /* FRESH: other calls in place of a walk's step, a jump or a check */
 
-static const char *const CALLS[] = {"COUNT", "NEXT", "PREVIOUS", "RANK", "UNRANK", "WALK NEXT", "WALK PREVIOUS", "JUMP"};
+static const char *const CALLS[] = {"COUNT", "NEXT", "PREVIOUS", "RANK", "UNRANK", "WALK NEXT", "WALK PREVIOUS", "JUMP", "CHECK"};
 static const char *const WHO[] = {"library", "before", "plain", "c++", "gsl", "fresh"};
 
 enum { MOST = 5 }; /* how many can be measured beside each other */
@@ -35,6 +37,8 @@ static uint8_t pool[POOL][PLACES];
 static uint64_t ranks[POOL];   /* what UNRANK is asked for */
 static uint64_t numbers[POOL]; /* the rank of each object, where the count fits */
 static int64_t distances[POOL]; /* how far each jumps, then */
+static uint8_t listing[ROOM];   /* the list that is checked */
+static uint64_t entries;        /* and how many it has */
 static arrangement_family family; /* what is measured, as the library takes it */
 static before_family earlier;     /* and as the earlier build does */
 static arrangement_lists lists;
@@ -232,6 +236,35 @@ static uint64_t call(Who who, Call c, const Family *f, int i, uint8_t *x) {
     return value + code;
 }
 
+/* The listing from the first object on, as plain C steps: the whole, or its beginning. */
+static void fill_listing(const Family *f) {
+    uint64_t count = UINT64_MAX, most = ROOM / f->len;
+    if (f->ranks) plain_count(f->kind, f->n, f->k, f->floor, f->edition, f->counts, f->letters, &count);
+    entries = count <= MOST_WHOLE && count <= most ? count : BEGINNING < most ? BEGINNING : most;
+    if (arrangement_first(family, &lists, listing, f->len) != ARRANGEMENT_DONE) exit(1);
+    for (uint64_t i = 1; i < entries; i++) {
+        memcpy(listing + i * f->len, listing + (i - 1) * f->len, f->len);
+        plain_next(f->kind, f->n, f->k, f->floor, f->edition, f->counts, f->letters, listing + i * f->len, f->len);
+    }
+    /* the whole is accepted; the beginning is wrong where the next entry is missing */
+    uint64_t place = 0;
+    uint32_t code = arrangement_check(family, &lists, entries, listing, entries * f->len, &place);
+    if (entries == count ? code != ARRANGEMENT_DONE : code != ARRANGEMENT_WRONG || place != entries) {
+        fprintf(stderr, "the check of %s answers %u at %llu\n", f->name, code, (unsigned long long)place);
+        exit(1);
+    }
+}
+
+/* The check of the list, or in its place FIRST and as many times NEXT, the last of which looks behind the list. Not inlined either. */
+__attribute__((noinline)) static uint64_t through_listing(Who who, const Family *f) {
+    uint8_t x[PLACES];
+    uint64_t place = 0, sum;
+    if (who == LIBRARY) return arrangement_check(family, &lists, entries, listing, entries * f->len, &place) + place;
+    sum = arrangement_first(family, &lists, x, f->len);
+    for (uint64_t i = 0; i < entries; i++) sum += arrangement_next(family, &lists, x, f->len);
+    return sum + x[0];
+}
+
 /* The library and the other must agree on every call that is timed. */
 static void agree(const Family *f, Call c, Who other) {
     uint8_t a[PLACES], b[PLACES];
@@ -251,17 +284,21 @@ static double now(void) {
     return (double)t.tv_sec * 1e9 + (double)t.tv_nsec;
 }
 
+/* Every object of the pool once; or the list, entry by entry. */
 static void whole_pool(Who who, Call c, const Family *f, int times) {
     uint8_t x[PLACES];
     uint64_t sum = 0;
-    for (int t = 0; t < times; t++)
-        for (int i = 0; i < POOL; i++) sum += call(who, c, f, i, x);
+    for (int t = 0; t < times; t++) {
+        if (c == CHECK) sum += through_listing(who, f);
+        else for (int i = 0; i < POOL; i++) sum += call(who, c, f, i, x);
+    }
     sink = sum;
 }
 
 /* Nanoseconds a call of each: the best of nine rounds of about 4 milliseconds each, in turn, so that a slower moment of the machine meets all. */
 static void timed(const Who *who, int number, Call c, const Family *f, double *best) {
     int times[MOST];
+    double calls = c == CHECK ? (double)entries : POOL;
     for (int w = 0; w < number; w++) {
         double from = now();
         whole_pool(who[w], c, f, 4);
@@ -272,7 +309,7 @@ static void timed(const Who *who, int number, Call c, const Family *f, double *b
         for (int w = 0; w < number; w++) {
             double from = now();
             whole_pool(who[w], c, f, times[w]);
-            double each = (now() - from) / times[w] / POOL;
+            double each = (now() - from) / times[w] / calls;
             if (each < best[w]) best[w] = each;
         }
 }
@@ -381,6 +418,13 @@ static void steps_and_jumps(const Family *f, int counting) {
     }
 }
 
+static void check(const Family *f, int counting) {
+    static const Who who[] = {LIBRARY, FRESH};
+    fill_listing(f);
+    if (!counting) printf("%s|%s|ENTRIES|library|%llu\n", f->name, f->pool, (unsigned long long)entries);
+    measure(who, 2, CHECK, f, counting);
+}
+
 static void all_calls(const Family *f, int counting) {
     fill_pool(f);
     for (Call c = COUNT; c <= UNRANK; c++) {
@@ -400,6 +444,7 @@ static void all_calls(const Family *f, int counting) {
         measure(who, number, c, f, counting);
     }
     if (f->ranks) steps_and_jumps(f, counting);
+    if (f->pool[0] == 'r') check(f, counting);
 }
 
 int main(int argc, char **argv) {

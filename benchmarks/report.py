@@ -18,7 +18,9 @@ for path in glob.glob(f"{out}/callgrind.*"):
     label = re.search(r"^desc: Trigger: Client Request: (.*)$", text, re.M)
     total = re.search(r"^(?:summary|totals): (\d+)", text, re.M)
     if label and total:
-        counts[tuple(label[1].split("|"))] = int(total[1]) / POOL
+        family, pool, call, who = label[1].split("|")
+        # of a list each entry is one, of the pool each object
+        counts[family, pool, call, who] = int(total[1]) / (times[family, pool, "ENTRIES", "library"] if call == "CHECK" else POOL)
 
 interpreted = next((w for (_, _, _, w) in times if w.startswith("sympy")), None)
 families = list(dict.fromkeys((f, p) for (f, p, _, w) in times if w == "library"))
@@ -123,6 +125,28 @@ def jump_targets(limit):
     say(*[f"  - missed: {r[2]} ({r[0]:.2f} by time, {r[1]:.2f} by instructions)" for r in rows if max(r[:2]) > limit])
 
 
+def check_rows():
+    """Of each family: its name, the entries of the list, a check's time and that of NEXT from object to object, its instructions and theirs."""
+    for family, pool in families:
+        at = (family, pool, "CHECK")
+        if (*at, "library") in times:
+            yield family, times[(family, pool, "ENTRIES", "library")], times[(*at, "library")], times[(*at, "fresh")], counts[(*at, "library")], counts[(*at, "fresh")]
+
+
+def check_table():
+    say("| family | entries | check, ns an entry | NEXT, ns | ratio | check's instructions | NEXT's | ratio |", "|---|---:|---:|---:|---:|---:|---:|---:|")
+    for family, entries, check, fresh, a, b in check_rows():
+        say(f"| {family} | {entries:,.0f} | {ns(check)} | {ns(fresh)} | {ratio(check, fresh)} | {ns(a)} | {ns(b)} | {ratio(a, b)} |")
+
+
+def check_targets(limit):
+    rows = [(check / fresh, a / b, family) for family, _, check, fresh, a, b in check_rows()]
+    by_time, by_count = max(rows), max(rows, key=lambda r: r[1])
+    say(f"- The check of a listing at most {limit} times NEXT through as many objects: largest {by_time[0]:.2f} by time ({by_time[2]}), "
+        f"{by_count[1]:.2f} by instructions ({by_count[2]}).")
+    say(*[f"  - missed: {r[2]} ({r[0]:.2f} by time, {r[1]:.2f} by instructions)" for r in rows if max(r[:2]) > limit])
+
+
 def subset_ranks(limit):
     rows = [(counts[(f, p, "RANK", "library")] / counts[(f, p, "RANK", "plain")], times[(f, p, "RANK", "library")] / times[(f, p, "RANK", "plain")], f, p) for f, p in families if p == "random" and f[0] == "1" and (f, p, "RANK", "library") in times]
     now = [f"{f[2:]} {times[(f, p, 'RANK', 'library')] / times[(f, p, 'RANK', 'before')]:.2f}" for _, _, f, p in rows if earlier]
@@ -209,6 +233,7 @@ def targets():
         say(*[f"  - missed: {what} ({times_faster:,.0f})" for times_faster, what in slow if times_faster < 100])
     walk_targets("6 Dyck words 36", 2.2)
     jump_targets(1.3)
+    check_targets(1.5)
     subset_ranks(1.7)
     floor_targets(2)
     edition_targets(1.2, 1.1)
@@ -263,5 +288,10 @@ say("", "## Jumps", "",
     "A jump from each of the 256 objects to one of random rank, beside COUNT, RANK and UNRANK of that rank, for each family whose count is below 2^64;",
     "the two, and plain C's RANK and UNRANK, must agree on code and bytes first. Of ranks that are 2^63 or more apart, half the distance is jumped.", "")
 jump_table()
+say("", "## Checks", "",
+    "The check of a list, for each entry, beside FIRST and NEXT from object to object, as many steps as there are entries, the last of which looks behind them.",
+    "A listing of up to 100,000 objects is checked whole, and must be accepted first; of a larger one the list has the first 10,000 objects, and must be wrong at",
+    "the entry that is missing behind them. The lists are made by plain C's NEXT.", "")
+check_table()
 say("", "## All calls", "")
 comparison()

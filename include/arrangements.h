@@ -1,13 +1,14 @@
-/* Arrangement numbers: the seven calls on families of combinatorial objects, the length of an object, jumps, and walks that know their number.
+/* Arrangement numbers: the seven calls on families of combinatorial objects, the length of an object, jumps, walks that know their number, and the
+ * check of a listing.
  *
  * Build the library with `rt staticlib arrangements` and link target/staticlib/libarrangements.a.
  * docs/SCOPE.md says what families, orders, calls and questions are, docs/PROMISES.md what is proved.
  *
  * Every call answers any family, lists and bytes. It asks only this of its pointers, and what it does is undefined only where this fails:
  *   - each is valid and not null, also where its length is 0, as for an empty list or an empty object, through which nothing is read or written;
- *   - object, *value, *number, the lists and the bytes of the lists don't overlap one another.
- * Nothing is kept between calls. Any number of threads may call at once, each with its own object, *value and *number; lists may be shared: no call
- * writes them.
+ *   - object, the bytes of a listing, *value, *number, *place, the lists and the bytes of the lists don't overlap one another.
+ * Nothing is kept between calls. Any number of threads may call at once, each with its own object, *value, *number and *place; lists, and the bytes
+ * of a listing, may be shared: no call writes them.
  *
  * A family is (kind, n, k, floor, edition) and, for kind 2, a list of letter counts, one byte a letter; for other kinds the list is empty. The floor
  * is 1 for every kind but 5, the edition is 1 for every kind but 4.
@@ -21,7 +22,7 @@
  * The editions of kind 4 have the same objects and differ in the order: in edition 1 a model that is the smallest of its block comes before the same
  * model in blocks 1, 2, .., in edition 2 behind it.
  *
- * A call answers one of the codes below. Only ARRANGEMENT_DONE comes with a change of what is lent.
+ * A call answers one of the codes below. Only ARRANGEMENT_DONE, and ARRANGEMENT_WRONG with its place, come with a change of what is lent.
  */
 #ifndef ARRANGEMENTS_H
 #define ARRANGEMENTS_H
@@ -33,8 +34,9 @@
 extern "C" {
 #endif
 
-#define ARRANGEMENT_DONE 0u  /* answered, written or stepped */
-#define ARRANGEMENT_END 100u /* none follows (NEXT), precedes (PREVIOUS) or stands there (a jump) */
+#define ARRANGEMENT_DONE 0u    /* answered, written, stepped or, of a listing, accepted */
+#define ARRANGEMENT_END 100u   /* none follows (NEXT), precedes (PREVIOUS) or stands there (a jump) */
+#define ARRANGEMENT_WRONG 101u /* not the family's listing, and *place says where (a check) */
 
 /* Refusals, by the number of the first question that is answered by no, in the order in which questions are put; in brackets the calls to which it is
  * put, if not to all. */
@@ -43,9 +45,10 @@ extern "C" {
 #define ARRANGEMENT_REFUSED_FLOOR 10u        /* is the floor 1 to 80, and 1 for every kind but 5? */
 #define ARRANGEMENT_REFUSED_EDITION 11u      /* is the edition 1 or 2, and 1 for every kind but 4? */
 #define ARRANGEMENT_REFUSED_LETTER_COUNTS 3u /* for kind 2, is the count list n long with a sum of at most 80; is it empty for other kinds? */
-#define ARRANGEMENT_REFUSED_NO_OBJECTS 4u    /* has the family an object? (all but COUNT, which answers 0) */
+#define ARRANGEMENT_REFUSED_NO_OBJECTS 4u    /* has the family an object? (all but COUNT, which answers 0; a check too) */
 #define ARRANGEMENT_REFUSED_OVERFLOW 5u      /* is the count below 2^64? (COUNT, RANK, UNRANK, jumps, a walk's steps) */
-#define ARRANGEMENT_REFUSED_LENGTH 6u        /* has the buffer the object's length? (all but COUNT) */
+#define ARRANGEMENT_REFUSED_LENGTH 6u        /* has the buffer the object's length? (all but COUNT and a check) */
+#define ARRANGEMENT_REFUSED_ENTRIES 12u      /* is the byte length exactly the entries times the object length? (a check, in place of 6) */
 #define ARRANGEMENT_REFUSED_NOT_AN_OBJECT 7u /* does it hold an object of the family? (RANK, NEXT, PREVIOUS, jumps, a walk's steps) */
 #define ARRANGEMENT_REFUSED_RANK 8u          /* is the rank below the count? (UNRANK; a walk's steps, of *number) */
 
@@ -117,6 +120,15 @@ uint32_t arrangement_jump(arrangement_family f, const arrangement_lists *lists, 
  * Any other *number below the count is stepped along too; PREVIOUS that finds an object while *number is 0 is refused by 8. */
 uint32_t arrangement_walk_next(arrangement_family f, const arrangement_lists *lists, uint8_t *object, size_t object_len, uint64_t *number);
 uint32_t arrangement_walk_previous(arrangement_family f, const arrangement_lists *lists, uint8_t *object, size_t object_len, uint64_t *number);
+
+/* The check of a listing, whoever made it: so many entries, their bytes one behind the other. It answers ARRANGEMENT_DONE exactly where they are the
+ * family's full listing, and else ARRANGEMENT_WRONG with a place, from 0, in *place: the entry there isn't the object of that rank, is missing, or
+ * lies beyond the last object. Where several places are so, any of them may be given.
+ * It puts questions 1, 2, 10, 11, 3, 4 and 12. A family with 2^64 objects or more is checked too: there every list is too short, so one of m right
+ * entries is wrong at m. Where the object is the empty string, the listing is one entry of no bytes.
+ * Every answer but ARRANGEMENT_WRONG leaves *place as it was. */
+uint32_t arrangement_check(arrangement_family f, const arrangement_lists *lists, uint64_t entries, const uint8_t *bytes, size_t bytes_len,
+                           uint64_t *place);
 
 #ifdef __cplusplus
 }

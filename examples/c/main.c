@@ -1,4 +1,5 @@
-/* A number for an arrangement, the arrangement for a number, one step on and back, a walk, jumps, a floor, an edition, derangements. Build and run: examples/c/run */
+/* A number for an arrangement, the arrangement for a number, one step on and back, a walk, jumps, a floor, an edition, derangements, checks of a listing.
+ * Build and run: examples/c/run */
 #include <inttypes.h>
 #include <stdio.h>
 #include <string.h>
@@ -88,6 +89,28 @@ static int derangements(void)
     return code == ARRANGEMENT_REFUSED_NO_OBJECTS ? 0 : 1;
 }
 
+/* The checks of a listing of 2 sites out of 4: as it should be, in the order of a dictionary, which has two entries exchanged, and without the last
+ * entry; 0, or 1 where an answer is another. */
+static int checks(void)
+{
+    const arrangement_family sites = arrangement_family_of(1, 4, 2);
+    const arrangement_lists none = arrangement_no_lists();
+    const uint8_t listing[12] = {1, 2, 1, 3, 2, 3, 1, 4, 2, 4, 3, 4};
+    const uint8_t dictionary[12] = {1, 2, 1, 3, 1, 4, 2, 3, 2, 4, 3, 4};
+    uint64_t place = 0;
+
+    if (arrangement_check(sites, &none, 6, listing, 12, &place) != ARRANGEMENT_DONE)
+        return 1;
+    printf("a list of 6 entries is accepted\n");
+    if (arrangement_check(sites, &none, 6, dictionary, 12, &place) != ARRANGEMENT_WRONG)
+        return 1;
+    printf("with two exchanged it is wrong at place %" PRIu64 "\n", place);
+    if (arrangement_check(sites, &none, 5, listing, 10, &place) != ARRANGEMENT_WRONG)
+        return 1;
+    printf("with one too few it is wrong at place %" PRIu64 "\n", place);
+    return 0;
+}
+
 int main(void)
 {
     /* A tree with two of model 1, three of model 2 and two of model 3, hung in this order. */
@@ -128,7 +151,7 @@ int main(void)
         show(what, tree, 7);
     }
 
-    if (jumps(trees, &lists, tree) != 0 || floors() != 0 || editions() != 0 || derangements() != 0)
+    if (jumps(trees, &lists, tree) != 0 || floors() != 0 || editions() != 0 || derangements() != 0 || checks() != 0)
         return 1;
 
     /* A number that no arrangement has is refused by its question, 8, and the tree stays. */

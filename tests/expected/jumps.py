@@ -6,7 +6,7 @@ on the listings of families.py, with Python's integers.
     python3 tests/expected/jumps.py"""
 from functools import cache
 
-from families import BRANCHES, FITS, KINDS, PLACES, Filtered, Ranks, count, family, full_name, length, name, refusal
+from families import FITS, PLACES, Filtered, Ranks, count, family, full_name, length, name, refusal
 from samples import (
     BELOW_FLOOR,
     DERANGEMENTS_MISSED,
@@ -20,9 +20,11 @@ from samples import (
     SAMPLES,
     SMALL_DERANGEMENTS,
     SMALL_EDITIONS,
+    SMALL_FAMILIES,
     SMALL_FLOORS,
     WRONG_EDITIONS,
     WRONG_FLOORS,
+    missing,
     some_bytes,
 )
 from texts import words, write_program
@@ -86,13 +88,7 @@ def everywhere(fs):
 
 
 def small_families():
-    fs = [family(1, n, k) for n, k in ((0, 0), (5, 0), (1, 1), (5, 5), (3, 1), (4, 2), (7, 6), (5, 3), (6, 3))]
-    fs += [family(2, len(counts), 0, counts) for counts in ((), (0,), (0, 0), (3,), (2, 1), (1, 0, 2), (2, 2), (1, 2, 1), (3, 3))]
-    fs += [family(3, n) for n in range(5)]
-    fs += [family(4, n, k) for n, k in ((0, 0), (1, 1), (4, 1), (3, 3), (3, 2), (4, 2), (5, 4), (5, 2))]
-    fs += [family(5, n, k) for n, k in ((0, 0), (4, 1), (4, 4), (5, 2), (7, 3), (10, 3), (12, 4))]
-    fs += [family(6, n) for n in range(5)]
-    yield from everywhere(fs)
+    yield from everywhere(SMALL_FAMILIES)
 
 
 # one object each
@@ -166,23 +162,6 @@ def large_families():
     yield from_rank(f, 0, -3, 3)
     yield from_rank(f, last, -3, 3)
     yield from_rank(f, last, LARGEST)
-
-
-def missing():
-    """Families that miss each question 1 to 5, with its number; some miss others behind it."""
-    yield from ((1, family(kind, 4, 2)) for kind in (0, KINDS + 1, FITS - 1))
-    yield 1, family(KINDS + 1, PLACES + 1, 2, (1,))
-    yield from ((2, family(1, n, k)) for n, k in ((PLACES + 1, 2), (4, PLACES + 1), (FITS - 1, 0)))
-    yield from ((2, f) for f in (family(3, 4, 1), family(6, BRANCHES + 1), family(7, 4, 2)))
-    # 2, and 3; 2, and 3 and 4
-    yield from ((2, f) for f in (family(7, PLACES + 1, 2, (1,)), family(1, 2, PLACES + 1, (1, 1))))
-    yield from ((3, family(2, n, 0, counts)) for n, counts in ((3, (1, 1)), (1, (1, 1)), (2, (PLACES, 1))))
-    yield 3, family(1, 4, 2, (0,))
-    # 3, and 4; 3, and 5
-    yield from ((3, f) for f in (family(1, 2, 4, (0,)), family(3, 21, 0, (1,))))
-    yield from ((4, f) for f in (family(1, 2, 4), family(4, 3, 0), family(5, 3, 0), family(5, 3, 4)))
-    yield from ((5, family(1, n, k)) for n, k in ((PLACES, PLACES // 2), (68, 34)))
-    yield from ((5, f) for f in (family(2, 2, 0, (40, 40)), family(3, 21), family(4, 66, 2), family(6, 37)))
 
 
 def refused(label, q, f, x):

@@ -1,9 +1,19 @@
 """Families that several of the scripts beside try."""
-from families import EDITIONS, FITS, FLOORS, KINDS, PLACES, Ranks, family, length, refusal
+from families import BRANCHES, EDITIONS, FITS, FLOORS, KINDS, PLACES, Ranks, family, length, refusal
 
 LARGEST = FITS - 1
 # one of each kind
 SAMPLES = family(1, 4, 2), family(2, 2, 0, (2, 1)), family(3, 3), family(4, 4, 2), family(5, 7, 3), family(6, 3), family(7, 4)
+
+# kinds 1 to 6, of at most 24 objects
+SMALL_FAMILIES = (
+    *(family(1, n, k) for n, k in ((0, 0), (5, 0), (1, 1), (5, 5), (3, 1), (4, 2), (7, 6), (5, 3), (6, 3))),
+    *(family(2, len(counts), 0, counts) for counts in ((), (0,), (0, 0), (3,), (2, 1), (1, 0, 2), (2, 2), (1, 2, 1), (3, 3))),
+    *(family(3, n) for n in range(5)),
+    *(family(4, n, k) for n, k in ((0, 0), (1, 1), (4, 1), (3, 3), (3, 2), (4, 2), (5, 4), (5, 2))),
+    *(family(5, n, k) for n, k in ((0, 0), (4, 1), (4, 4), (5, 2), (7, 3), (10, 3), (12, 4))),
+    *(family(6, n) for n in range(5)),
+)
 
 # kind 5 with a floor: the empty split, which has no part below any floor; one object; several
 SMALL_FLOORS = tuple(family(5, n, k, floor=floor) for n, k, floor in ((0, 0, FLOORS), (7, 2, 3), (11, 3, 2)))
@@ -136,6 +146,23 @@ DERANGEMENTS_MISSED = (
     (4, family(7, 1)),
     (5, family(7, 21)),
 )
+
+
+def missing():
+    """Families that miss each question 1 to 5, with its number; some miss others behind it."""
+    yield from ((1, family(kind, 4, 2)) for kind in (0, KINDS + 1, LARGEST))
+    yield 1, family(KINDS + 1, PLACES + 1, 2, (1,))
+    yield from ((2, family(1, n, k)) for n, k in ((PLACES + 1, 2), (4, PLACES + 1), (LARGEST, 0)))
+    yield from ((2, f) for f in (family(3, 4, 1), family(6, BRANCHES + 1), family(7, 4, 2)))
+    # 2, and 3; 2, and 3 and 4
+    yield from ((2, f) for f in (family(7, PLACES + 1, 2, (1,)), family(1, 2, PLACES + 1, (1, 1))))
+    yield from ((3, family(2, n, 0, counts)) for n, counts in ((3, (1, 1)), (1, (1, 1)), (2, (PLACES, 1))))
+    yield 3, family(1, 4, 2, (0,))
+    # 3, and 4; 3, and 5
+    yield from ((3, f) for f in (family(1, 2, 4, (0,)), family(3, 21, 0, (1,))))
+    yield from ((4, f) for f in (family(1, 2, 4), family(4, 3, 0), family(5, 3, 0), family(5, 3, 4)))
+    yield from ((5, family(1, n, k)) for n, k in ((PLACES, PLACES // 2), (68, 34)))
+    yield from ((5, f) for f in (family(2, 2, 0, (40, 40)), family(3, 21), family(4, 66, 2), family(6, 37)))
 
 
 def some_bytes(f):

@@ -45,6 +45,7 @@ extern "C" {
     fn arrangement_jump(f: Family, lists: *const CLists, d: i64, object: *mut u8, object_len: usize) -> c_uint;
     fn arrangement_walk_next(f: Family, lists: *const CLists, object: *mut u8, object_len: usize, number: *mut u64) -> c_uint;
     fn arrangement_walk_previous(f: Family, lists: *const CLists, object: *mut u8, object_len: usize, number: *mut u64) -> c_uint;
+    fn arrangement_check(f: Family, lists: *const CLists, entries: u64, bytes: *const u8, bytes_len: usize, place: *mut u64) -> c_uint;
 }
 
 /// A family, with the letter counts that kind 2 lends beside it.
@@ -57,10 +58,12 @@ pub struct Arrangements {
 /// What a call answers: one of the codes below, as in include/arrangements.h.
 pub type Code = u32;
 
-/// Answered, written or stepped.
+/// Answered, written, stepped or, of a listing, accepted.
 pub const DONE: Code = 0;
 /// None follows, precedes or stands there.
 pub const END: Code = 100;
+/// Not the family's listing, and the place says where.
+pub const WRONG: Code = 101;
 
 // Refusals, by the number of the first question that is answered by no, in the order in which questions are put.
 pub const REFUSED_KIND: Code = 1;
@@ -71,6 +74,7 @@ pub const REFUSED_LETTER_COUNTS: Code = 3;
 pub const REFUSED_NO_OBJECTS: Code = 4;
 pub const REFUSED_OVERFLOW: Code = 5;
 pub const REFUSED_LENGTH: Code = 6;
+pub const REFUSED_ENTRIES: Code = 12;
 pub const REFUSED_NOT_AN_OBJECT: Code = 7;
 pub const REFUSED_RANK: Code = 8;
 
@@ -133,5 +137,10 @@ impl Arrangements {
     pub fn walk_previous(&self, object: &mut [u8], number: &mut u64) -> Code {
         let (f, lists) = self.parts();
         unsafe { arrangement_walk_previous(f, &lists, object.as_mut_ptr(), object.len(), number) }
+    }
+
+    pub fn check(&self, entries: u64, bytes: &[u8], place: &mut u64) -> Code {
+        let (f, lists) = self.parts();
+        unsafe { arrangement_check(f, &lists, entries, bytes.as_ptr(), bytes.len(), place) }
     }
 }

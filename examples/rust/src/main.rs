@@ -1,6 +1,9 @@
-//! A number for an arrangement, the arrangement for a number, one step on and back, a walk, jumps, a floor, an edition, derangements. Build and run: examples/rust/run
+//! A number for an arrangement, the arrangement for a number, one step on and back, a walk, jumps, a floor, an edition, derangements, checks of a listing.
+//! Build and run: examples/rust/run
 
-use arrangements_example::{Arrangements, Family, DONE, END, REFUSED_EDITION, REFUSED_FLOOR, REFUSED_NO_OBJECTS, REFUSED_RANK};
+use arrangements_example::{
+    Arrangements, Family, DONE, END, REFUSED_EDITION, REFUSED_ENTRIES, REFUSED_FLOOR, REFUSED_NO_OBJECTS, REFUSED_RANK, WRONG,
+};
 
 /// Jumps: 100 places back, as many on, and off the listing, which is END.
 fn jumps(plans: &Arrangements, plan: &mut [u8]) {
@@ -57,6 +60,20 @@ fn derangements() {
     println!("a single model is refused");
 }
 
+/// The checks of a listing of the plans with three branches: as it should be, with two entries exchanged, and with a byte too few.
+fn checks() {
+    let plans = Arrangements { family: Family::of(6, 3, 0), counts: vec![] };
+    let mut listing: [[u8; 6]; 5] = [[1, 0, 1, 0, 1, 0], [1, 0, 1, 1, 0, 0], [1, 1, 0, 0, 1, 0], [1, 1, 0, 1, 0, 0], [1, 1, 1, 0, 0, 0]];
+    let mut place = 0;
+    assert_eq!(plans.check(5, &listing.concat(), &mut place), DONE);
+    println!("a list of 5 plans is accepted");
+    listing.swap(3, 4);
+    assert_eq!(plans.check(5, &listing.concat(), &mut place), WRONG);
+    println!("with two exchanged it is wrong at place {place}");
+    assert_eq!(plans.check(5, &listing.concat()[1..], &mut place), REFUSED_ENTRIES);
+    println!("5 plans in 29 bytes are refused");
+}
+
 fn main() {
     // Fourteen bytes of a plan with seven branches.
     let plans = Arrangements { family: Family::of(6, 7, 0), counts: vec![] };
@@ -86,6 +103,7 @@ fn main() {
     floors();
     editions();
     derangements();
+    checks();
 
     assert_eq!(plans.last(&mut plan), DONE);
     let last = plan;

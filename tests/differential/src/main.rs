@@ -1,10 +1,11 @@
 //! Random calls of all kinds, valid and damaged, small and at 80 places and at both edges of 2^64, on the library and on the reference; then
-//! walks, started or made up, and jumps there and back. The first difference is printed and ends the run with status 1.
+//! walks, started or made up, jumps there and back, and checks of lists, right and damaged. The first difference is printed and ends the run with
+//! status 1.
 
 mod reference;
 
 use arrangements_example::{Arrangements, Family};
-use reference::{at_seam, joined, leap, refusal, stride, Kind, Tables, LARGE};
+use reference::{at_seam, joined, leap, refusal, stride, Kind, Listing, Tables, LARGE};
 use std::cmp::Ordering;
 
 struct Random(u64);
@@ -359,6 +360,145 @@ fn jump(r: &mut Random, t: &Tables, kind: u64, outcomes: &mut Outcomes) -> Resul
     Ok(())
 }
 
+/// What all checks came to.
+#[derive(Default)]
+struct Verdicts {
+    accepted: u64,
+    other: u64,
+    missing: u64,
+    beyond: u64,
+    misfits: u64,
+    refused: u64,
+}
+
+impl std::fmt::Display for Verdicts {
+    fn fmt(&self, out: &mut std::fmt::Formatter) -> std::fmt::Result {
+        let (other, missing, beyond) = (self.other, self.missing, self.beyond);
+        write!(out, "{} accepted, {} wrong ({other} at another entry, {missing} at a missing one, ", self.accepted, other + missing + beyond)?;
+        write!(out, "{beyond} beyond the last object) and {} refused ({} by 12)", self.refused + self.misfits, self.misfits)
+    }
+}
+
+/// A place in a list of so many, often the first or the last.
+fn place(r: &mut Random, many: usize) -> usize {
+    match r.below(6) {
+        0 => 0,
+        1 => many - 1,
+        _ => r.below(many as u64) as usize,
+    }
+}
+
+/// Damages a list in one way: a byte changed, an entry dropped, doubled, in the place of another, one appended, two exchanged, the list cut off, turned round
+/// or begun elsewhere. Of a list without entries, or without bytes, only some of these do anything.
+fn damage(r: &mut Random, own: &mut Vec<Vec<u8>>, size: usize) {
+    if own.is_empty() {
+        return own.push(vec![r.below(4) as u8; size]);
+    }
+    let (i, j) = (place(r, own.len()), place(r, own.len()));
+    match r.below(12) {
+        0..=2 if size > 0 => {
+            let at = place(r, size);
+            let b = own[i][at];
+            own[i][at] = [b.wrapping_add(1), b.wrapping_sub(1), 0, 255, own[j][at], r.below(82) as u8][r.below(6) as usize];
+        }
+        3 => {
+            own.remove(i);
+        }
+        4 => own.insert(i, own[i].clone()),
+        5 => own[i] = own[j].clone(),
+        6 => own.push(own[i].clone()),
+        7 => own.push((0..size).map(|_| r.below(4) as u8).collect()),
+        8 => own.swap(i, j),
+        9 if i + 1 < own.len() => own.swap(i, i + 1),
+        10 => own.truncate(i),
+        11 if r.below(2) == 0 => own.reverse(),
+        _ => own.rotate_left(i),
+    }
+}
+
+/// A number of entries whose bytes are so many only where all but the lowest bits are lost; the largest where there is none.
+fn wrapped(r: &mut Random, size: usize, bits: u32, bytes: usize) -> u64 {
+    let totals = (1..size as u128).map(|turns| bytes as u128 + (turns << bits)).filter(|total| total % size as u128 == 0);
+    let found: Vec<u64> = totals.map(|total| (total / size as u128) as u64).collect();
+    if found.is_empty() { u64::MAX } else { found[r.below(found.len() as u64) as usize] }
+}
+
+/// Other numbers of entries, or of bytes: one off, an entry's bytes off, at the edges of 64 bits, or such as `wrapped` finds.
+fn misfit(r: &mut Random, size: usize, entries: &mut u64, bytes: &mut Vec<u8>) {
+    match r.below(12) {
+        0 => bytes.push(r.below(4) as u8),
+        1 => bytes.truncate(bytes.len().saturating_sub(1)),
+        2 => bytes.extend(vec![1; size]),
+        3 => bytes.truncate(bytes.len().saturating_sub(size)),
+        4 => *entries += 1,
+        5 => *entries = entries.saturating_sub(1),
+        6 | 7 => {
+            bytes.truncate([bytes.len(), place(r, bytes.len() + 1)][r.below(2) as usize]);
+            let bits = [64, 64, 32][r.below(3) as usize];
+            *entries = wrapped(r, size, bits, bytes.len());
+        }
+        8 => (*entries, *bytes) = (1 << r.below(64), vec![]),
+        9 => *entries = u64::MAX - r.below(3),
+        10 => *entries = r.next(),
+        _ => *entries = r.below(4),
+    }
+}
+
+/// A list of a family that has objects: the whole listing where it isn't too long, else some objects of its beginning; mostly damaged in a way or two.
+fn supplied(r: &mut Random, t: &Tables, f: &Kind, listing: &mut Listing) -> (u64, Vec<u8>) {
+    let most = [20, 100, 100, 100, 100, 1000, 1000, 3000][r.below(8) as usize];
+    let count = f.count(t);
+    let many = if count <= most as u128 { count as u64 } else { r.below(most.min(1000)) };
+    let (mut own, size) = (listing.first(many as usize).to_vec(), f.length());
+    for _ in 0..[0, 0, 1, 1, 1, 2][r.below(6) as usize] {
+        damage(r, &mut own, size);
+    }
+    let (mut entries, mut bytes) = (own.len() as u64, own.concat());
+    if r.below(8) == 0 {
+        misfit(r, size, &mut entries, &mut bytes);
+    }
+    (entries, bytes)
+}
+
+/// The check of a list, seven times in eight in a family of that kind that has objects. Of a wrong list any wrong place may be told; that it is the smallest is
+/// what the code promises inside, and compared, too. No byte lent changes, nor the place but where it is told.
+fn check(r: &mut Random, t: &Tables, kind: u64, verdicts: &mut Verdicts) -> Result<(), String> {
+    let (mut f, any) = (family(r), r.below(8) == 0);
+    while !any && !(f.kind == kind && usable(t, &f)) {
+        f = family(r);
+    }
+    let mut listing = Listing::new(t, &f);
+    let (entries, bytes) = if usable(t, &f) {
+        supplied(r, t, &f, &mut listing)
+    } else {
+        let (entries, size) = (r.below(4), r.below(90));
+        ([entries, entries, r.next()][r.below(3) as usize], vec![1; (entries * size) as usize])
+    };
+    let (lib, lent, mut told) = (library(&f), bytes.clone(), 77);
+    let code = lib.check(entries, &lent, &mut told);
+    let refused = listing.refusal(entries, &bytes);
+    let smallest = if refused == 0 { listing.wrong(entries, &bytes) } else { None };
+    let good = match code {
+        _ if refused != 0 => code == refused && told == 77,
+        0 => smallest.is_none() && told == 77,
+        101 => listing.is_wrong(entries, &bytes, told),
+        _ => false,
+    };
+    if !good || code == 101 && smallest != Some(told) || lent != bytes || lib.counts != f.counts {
+        let what = describe(&f, "CHECK", entries as i128, &bytes);
+        return Err(format!("{what}\nthe library answered {code} with place {told}; expected refusal {refused}, smallest wrong place {smallest:?}"));
+    }
+    match code {
+        0 => verdicts.accepted += 1,
+        101 if told >= entries => verdicts.missing += 1,
+        101 if told as u128 >= f.count(t) => verdicts.beyond += 1,
+        101 => verdicts.other += 1,
+        12 => verdicts.misfits += 1,
+        _ => verdicts.refused += 1,
+    }
+    Ok(())
+}
+
 /// Makes so many of them; the first that differs is printed and ends the run.
 fn each_agrees(what: &str, times: u64, mut one: impl FnMut(u64) -> Result<(), String>) {
     for turn in 0..times {
@@ -426,6 +566,9 @@ fn main() {
     each_agrees("walk", walks, |_| walk(&mut r, &t, &mut steps));
     let (jumps, mut landings) = (calls / 5, Outcomes::default());
     each_agrees("jump", jumps, |turn| jump(&mut r, &t, 1 + turn % 7, &mut landings));
+    let (checks, mut verdicts) = (calls / 5, Verdicts::default());
+    each_agrees("check", checks, |turn| check(&mut r, &t, 1 + turn % 7, &mut verdicts));
     print!("{calls} calls agree, {answered} of them answered and {} refused; ", calls - answered);
-    println!("{walks} walks agree, of their steps {steps}; {jumps} jumps agree, {landings}");
+    print!("{walks} walks agree, of their steps {steps}; {jumps} jumps agree, {landings}; ");
+    println!("{checks} checks agree, {verdicts}");
 }

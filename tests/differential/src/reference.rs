@@ -1,7 +1,7 @@
 //! An independent implementation of the families: objects by the table's words, order by a comparison, numbers by counting extensions in
 //! 128-bit arithmetic that stops at 2^100. It shares no code with the library: it has no steps, only ranks, so that a neighbour is the object
 //! whose rank differs by one (of derangements, where ranks stop, the one that meets it at a seam); a walk's step is the object of that rank, whatever
-//! number the walk keeps, and a jump's goal the object whose rank is a sum in 128 bits.
+//! number the walk keeps, a jump's goal the object whose rank is a sum in 128 bits, and a place of a list is checked against the object of that rank.
 
 use std::cmp::Ordering;
 
@@ -550,4 +550,51 @@ pub fn leap(t: &Tables, f: &Kind, d: i64, x: &[u8]) -> (u32, Vec<u8>) {
         return (100, x.to_vec());
     }
     (0, f.unrank(t, to as u128))
+}
+
+/// The beginning of a listing, by ranks; these are small, so that they are right where counts are cut off, too.
+pub struct Listing<'a> {
+    t: &'a Tables,
+    f: &'a Kind,
+    known: Vec<Vec<u8>>,
+}
+
+impl<'a> Listing<'a> {
+    pub fn new(t: &'a Tables, f: &'a Kind) -> Self {
+        Listing { t, f, known: vec![] }
+    }
+
+    pub fn first(&mut self, many: usize) -> &[Vec<u8>] {
+        for rank in self.known.len()..many {
+            self.known.push(self.f.unrank(self.t, rank as u128));
+        }
+        &self.known[..many]
+    }
+
+    /// The first question that refuses the check of a list, or 0: in place of 6, "is the byte length exactly the entries times the object length?"
+    pub fn refusal(&self, entries: u64, bytes: &[u8]) -> u32 {
+        match self.f.table() {
+            0 if self.f.count(self.t) == 0 => 4,
+            0 if entries as u128 * self.f.length() as u128 != bytes.len() as u128 => 12,
+            q => q,
+        }
+    }
+
+    /// Is this a place "at which the entry isn't the object of that rank, is missing, or lies beyond the last object"? Of a list that isn't refused.
+    pub fn is_wrong(&mut self, entries: u64, bytes: &[u8], place: u64) -> bool {
+        let (there, objects, size) = (place < entries, self.f.count(self.t), self.f.length());
+        match (there, (place as u128) < objects) {
+            (true, true) => {
+                let at = place as usize;
+                bytes[at * size..(at + 1) * size] != self.first(at + 1)[at][..]
+            }
+            (there, object) => there || object,
+        }
+    }
+
+    /// The smallest wrong place; none where the list is the full listing.
+    pub fn wrong(&mut self, entries: u64, bytes: &[u8]) -> Option<u64> {
+        let places = (entries as u128).max(self.f.count(self.t)).min(u64::MAX as u128) as u64;
+        (0..places).find(|&place| self.is_wrong(entries, bytes, place))
+    }
 }
