@@ -124,8 +124,8 @@ uint32_t arrangement_walk_previous(arrangement_family f, const arrangement_lists
 /* The check of a listing, whoever made it: so many entries, their bytes one behind the other. It answers ARRANGEMENT_DONE exactly where they are the
  * family's full listing, and else ARRANGEMENT_WRONG with a place, from 0, in *place: the entry there isn't the object of that rank, is missing, or
  * lies beyond the last object. Where several places are so, any of them may be given.
- * It puts questions 1, 2, 10, 11, 3, 4 and 12. A family with 2^64 objects or more is checked too: there every list is too short, so one of m right
- * entries is wrong at m. Where the object is the empty string, the listing is one entry of no bytes.
+ * It puts questions 1, 2, 10, 11, 3, 4 and 12. A family with 2^64 objects or more is checked too: there every list is too short. Where the object is
+ * the empty string, the listing is one entry of no bytes.
  * Every answer but ARRANGEMENT_WRONG leaves *place as it was. */
 uint32_t arrangement_check(arrangement_family f, const arrangement_lists *lists, uint64_t entries, const uint8_t *bytes, size_t bytes_len,
                            uint64_t *place);
