@@ -1,4 +1,4 @@
--- What the first wrong place says: all before it agree, and it is wrong; none is, exactly where the lists are equal.
+-- What the first wrong place says: all before it agree, and it is wrong; where there is none the lists are equal.
 -- Assumes nothing.
 use mathlib.Core.Path.{_≡_, refl, ap, ap₂}
 use mathlib.Core.Bool.{Bool, true, false, cond}
@@ -17,15 +17,7 @@ use Rattle.checker.specs.inner.Differences.{firstWrong}
 abbrev pub AgreeTo : List Bytes → List Bytes → ℕ → Type 0
 AgreeTo l es p = (q : ℕ) → q < p → getElem? es q ≡ getElem? l q
 
-cons-equal : {a b : Bytes} {l m : List Bytes} → a ≡ b → l ≡ m → a ∷ l ≡ b ∷ m
-cons-equal p q = ap₂ {C = List Bytes} (λ c z. c ∷ z) p q
-
 -- what is found
-
-pub first-none : (l : List Bytes) → firstWrong l l ≡ none
-unfolding firstWrong
-first-none [] = refl
-first-none (x ∷ l) = rw (eq-same {x = x} {y = x} refl, first-none l)
 
 pub first-at : (l es : List Bytes) (p : ℕ) → AgreeTo l es p → WrongAt l es p → firstWrong l es ≡ some p
 unfolding firstWrong WrongAt
@@ -49,7 +41,7 @@ none-wrong (x ∷ l) [] e = absurd (Option·some-ne-none 0 e)
 none-wrong (x ∷ l) (y ∷ es) e = go (same y x) refl (firstWrong l es) (none-wrong l es) e
   where
     go : (b : Bool) → same y x ≡ b → (o : Option ℕ) → (o ≡ none → es ≡ l) → cond b (Option·map suc o) (some 0) ≡ none → y ∷ es ≡ x ∷ l
-    go true s none later e′ = cons-equal (same-eq y x s) (later refl)
+    go true s none later e′ = ap₂ {C = List Bytes} (λ c z. c ∷ z) (same-eq y x s) (later refl)
     go true s (some p) later e′ = absurd (Option·some-ne-none (suc p) e′)
     go false s o later e′ = absurd (Option·some-ne-none 0 e′)
 
