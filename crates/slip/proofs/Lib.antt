@@ -1,6 +1,5 @@
--- The laws of lines, how long a text is, and the specification's worked output.
-pub mod LineLaws
-pub mod Sizes
-pub mod SlipLaws
-pub mod Worked
+-- The laws of printed lines, how long a text is, the specification's worked output, and what was printed earlier.
 pub mod Lines
+pub mod Sizes
+pub mod Start
+pub mod Worked

@@ -5,7 +5,7 @@ use mathlib.Core.Option.{Option, none, some, Option·some-injective, Option·non
 use mathlib.Core.Bool.{cond}
 use mathlib.Core.List.{List, [], _∷_, _++_, flatMap, append-assoc, append-nil}
 use Prim.Native.Nat.{ℕ, zero, suc, _+_, _≤_, _<_}
-use native.Mathlib.Nat.{zero-add, add-zero}
+use native.Mathlib.Nat.{add-zero}
 use native.Mathlib.Numerals.{add-one}
 use native.Mathlib.Omega.{arith}
 use lib.Dec.{ltb}
@@ -45,51 +45,51 @@ lines-snoc s (y ∷ l) (suc r) {x} h =
     rw (lines-snoc (suc s) l r h, append-assoc, e)
 
 -- one line more
-pub line-written : (l : List Bytes) (r : ℕ) {d e g x : Bytes} {at end till : ℕ} → Wrote d at e end (objectLines 0 (take r l)) → At l x r → Wrote e end g till (objectLine r x) → Wrote d at g till (objectLines 0 (take (r + 1) l))
-line-written l r v h w = rw (add-one, lines-snoc 0 l r h, zero-add) (then v w)
+pub line-written : (s : ℕ) (l : List Bytes) (r : ℕ) {d e g x : Bytes} {at end till : ℕ} → Wrote d at e end (objectLines s (take r l)) → At l x r → Wrote e end g till (objectLine (s + r) x) → Wrote d at g till (objectLines s (take (r + 1) l))
+line-written s l r v h w = rw (add-one, lines-snoc s l r h) (then v w)
 
 -- the body with another number of lines at most
-abbrev pub upTo : ℕ → List Bytes → Bytes
-upTo m l = objectLines 0 (take m l) ++ lastLine (cond (ltb m (length l)) wordMore wordEnd)
+abbrev pub upTo : ℕ → ℕ → List Bytes → Bytes
+upTo s m l = objectLines s (take m l) ++ lastLine (cond (ltb m (length l)) wordMore wordEnd)
 
 -- END behind the last line
-pub ended : (l : List Bytes) (r : ℕ) {d e g : Bytes} {at end till : ℕ} → Wrote d at e end (objectLines 0 (take r l)) → r ≡ length l → r ≤ listedAtMost → Wrote e end g till (lastLine wordEnd) → Wrote d at g till (body l)
+pub ended : (s : ℕ) (l : List Bytes) (r : ℕ) {d e g : Bytes} {at end till : ℕ} → Wrote d at e end (objectLines s (take r l)) → r ≡ length l → r ≤ listedAtMost → Wrote e end g till (lastLine wordEnd) → Wrote d at g till (body s l)
 unfolding body
-ended l r v e h w =
+ended s l r v e h w =
     rw (take-all listedAtMost l (omega arith), le-ltb listedAtMost (length l) (omega arith), ← take-all r l (omega arith)) (then v w)
 
 -- MORE behind as many lines as are listed at most
-pub cut : (l : List Bytes) (r : ℕ) {d e g : Bytes} {at end till : ℕ} → Wrote d at e end (objectLines 0 (take r l)) → r < length l → r ≡ listedAtMost → Wrote e end g till (lastLine wordMore) → Wrote d at g till (body l)
+pub cut : (s : ℕ) (l : List Bytes) (r : ℕ) {d e g : Bytes} {at end till : ℕ} → Wrote d at e end (objectLines s (take r l)) → r < length l → r ≡ listedAtMost → Wrote e end g till (lastLine wordMore) → Wrote d at g till (body s l)
 unfolding body
-cut l r {d} {g = g} {at} {till = till} v h e w =
-    subst (λ (m : ℕ). Wrote d at g till (upTo m l)) e (rw (lt-ltb r (length l) h) (then v w))
+cut s l r {d} {g = g} {at} {till = till} v h e w =
+    subst (λ (m : ℕ). Wrote d at g till (upTo s m l)) e (rw (lt-ltb r (length l) h) (then v w))
 
 -- END alone
-pub nothing-listed : (l : List Bytes) {d g : Bytes} {at till : ℕ} → l ≡ [] → Wrote d at g till (lastLine wordEnd) → Wrote d at g till (body l)
+pub nothing-listed : (s : ℕ) (l : List Bytes) {d g : Bytes} {at till : ℕ} → l ≡ [] → Wrote d at g till (lastLine wordEnd) → Wrote d at g till (body s l)
 unfolding body objectLines
-nothing-listed l e w = rw e w
+nothing-listed s l e w = rw e w
 
 -- the first line, and what stands behind it
-pub headed : (f : Family) (b : Lent) {count d e g p q : Bytes} {at c i j k : ℕ} → Wrote d at e c (familyColumns f) → Wrote e c g i count → Wrote g i p j (newline ∷ []) → Wrote p j q k (body (listing f b)) → Wrote d at q k (listedText count f b)
+pub headed : (s : ℕ) (f : Family) (b : Lent) {count d e g p q : Bytes} {at c i j k : ℕ} → Wrote d at e c (familyColumns f) → Wrote e c g i count → Wrote g i p j (newline ∷ []) → Wrote p j q k (body s (listing f b)) → Wrote d at q k (listedText s count f b)
 unfolding listedText firstLine
-headed f b u v w y = simp append-assoc (simp append-assoc at (then (then (then u v) w) y))
+headed s f b u v w y = simp append-assoc (simp append-assoc at (then (then (then u v) w) y))
 
-said-counted : (o : Option ℕ) (f : Family) (b : Lent) {n : ℕ} → _≡_ {A = Said} (COUNTED n, []) (judged o [] (COUNTED (countOf f b), [])) → said o f b ≡ listedText (column countWidth n) f b
+said-counted : (s : ℕ) (o : Option ℕ) (f : Family) (b : Lent) {n : ℕ} → _≡_ {A = Said} (COUNTED n, []) (judged o [] (COUNTED (countOf f b), [])) → said s o f b ≡ listedText s (column countWidth n) f b
 unfolding said judged
-said-counted none f b e = let a = ap (λ (s : Said). s .0) e in cc
-said-counted (some q) f b e = let a = ap (λ (s : Said). s .0) e in let z : _≡_ {A = ℕ} 0 1 = cc in absurd (omega arith)
+said-counted s none f b e = let a = ap (λ (r : Said). r .0) e in cc
+said-counted s (some q) f b e = let a = ap (λ (r : Said). r .0) e in let z : _≡_ {A = ℕ} 0 1 = cc in absurd (omega arith)
 
-said-refused : (o : Option ℕ) (f : Family) (b : Lent) {q : ℕ} → _≡_ {A = Said} (REFUSED q, []) (judged o [] (COUNTED (countOf f b), [])) → said o f b ≡ said (some q) f b
+said-refused : (s : ℕ) (o : Option ℕ) (f : Family) (b : Lent) {q : ℕ} → _≡_ {A = Said} (REFUSED q, []) (judged o [] (COUNTED (countOf f b), [])) → said s o f b ≡ said s (some q) f b
 unfolding judged
-said-refused none f b e = let a = ap (λ (s : Said). s .0) e in let z : _≡_ {A = ℕ} 0 1 = cc in absurd (omega arith)
-said-refused (some p) f b e = let a = ap (λ (s : Said). s .0) e in cc
+said-refused s none f b e = let a = ap (λ (r : Said). r .0) e in let z : _≡_ {A = ℕ} 0 1 = cc in absurd (omega arith)
+said-refused s (some p) f b e = let a = ap (λ (r : Said). r .0) e in cc
 
 -- the text of a family that COUNT counts
-pub text-counted : (f : Family) (b : Lent) {n : ℕ} → _≡_ {A = Said} (COUNTED n, []) (respond COUNT f b []) → familyText f b ≡ listedText (column countWidth n) f b
+pub text-counted : (s : ℕ) (f : Family) (b : Lent) {n : ℕ} → _≡_ {A = Said} (COUNTED n, []) (respond COUNT f b []) → familyText s f b ≡ listedText s (column countWidth n) f b
 unfolding familyText respond act countOf
-text-counted f b e = said-counted (refusal COUNT f b 0 (isObject f b [])) f b e
+text-counted s f b e = said-counted s (refusal COUNT f b 0 (isObject f b [])) f b e
 
 -- and of one that it refuses
-pub text-refused : (f : Family) (b : Lent) {q : ℕ} → _≡_ {A = Said} (REFUSED q, []) (respond COUNT f b []) → familyText f b ≡ said (some q) f b
+pub text-refused : (s : ℕ) (f : Family) (b : Lent) {q : ℕ} → _≡_ {A = Said} (REFUSED q, []) (respond COUNT f b []) → familyText s f b ≡ said s (some q) f b
 unfolding familyText respond act countOf
-text-refused f b e = said-refused (refusal COUNT f b 0 (isObject f b [])) f b e
+text-refused s f b e = said-refused s (refusal COUNT f b 0 (isObject f b [])) f b e

@@ -20,9 +20,10 @@ use Rattle.slip.specs.declared.Rendered.{Rendered}
 use Rattle.slip.specs.declared.Rendered.the-variants.{Text}
 use Rattle.columns.specs.Columns.{column, justified}
 use Rattle.columns.specs.Fields.{fieldWidth}
-use Rattle.slip.specs.Grammar.{Slip, slipOf}
-use Rattle.slip.specs.Sizes.{countWidth, familyWidth, objectLineWidth, lastLineWidth, refusedWidth, listedAtMost, longestBody, largest}
-use Rattle.slip.specs.Text.{wordEnd, wordMore, wordMany, familyColumns, firstLine, objectLine, objectLines, lastLine, body, listedText, refusedText, said, familyText, lentBy, textOf, output}
+use Rattle.grammar.specs.Grammar.{Slip, slipOf}
+use Rattle.grammar.specs.Sizes.{familyWidth}
+use Rattle.slip.specs.Sizes.{countWidth, objectLineWidth, lastLineWidth, refusedWidth, listedAtMost, longestBody, largest}
+use Rattle.slip.specs.Text.{wordEnd, wordMore, wordMany, familyColumns, firstLine, objectLine, objectLines, lastLine, body, listedText, refusedText, said, familyText, familyOf, lentBy, textOf, output}
 use Rattle.columns.specs.inner.Writing.{Wrote}
 use Rattle.slip.specs.Rendering.{Renders}
 use Rattle.columns.proofs.ColumnLaws.{length-column}
@@ -44,28 +45,28 @@ lines-long s (suc m) [] h = omega arith
 lines-long s (suc m) (x ∷ l) h =
     rw (length-append, line-long s x) (omega (arith, h x (List·Memᴰ·head refl), lines-long (suc s) m l (λ y k. h y (List·Memᴰ·tail k))))
 
-last-long : (more : Bool) → length (lastLine (cond more wordMore wordEnd)) ≡ lastLineWidth
+pub last-long : (more : Bool) → length (lastLine (cond more wordMore wordEnd)) ≡ lastLineWidth
 unfolding lastLine justified
 last-long true = refl
 last-long false = refl
 
-up-to-long : (m : ℕ) (l : List Bytes) → ((x : Bytes) → List·Memᴰ x l → length x ≤ longestObject) → length (upTo m l) ≤ objectLineWidth longestObject * m + lastLineWidth
-up-to-long m l h = rw (length-append, last-long (ltb m (length l))) (omega (arith, lines-long 0 m l h))
+up-to-long : (s m : ℕ) (l : List Bytes) → ((x : Bytes) → List·Memᴰ x l → length x ≤ longestObject) → length (upTo s m l) ≤ objectLineWidth longestObject * m + lastLineWidth
+up-to-long s m l h = rw (length-append, last-long (ltb m (length l))) (omega (arith, lines-long s m l h))
 
 short-objects : (f : Family) (b : Lent) (x : Bytes) → List·Memᴰ x (listing f b) → length x ≤ longestObject
 short-objects f b x k =
     let o = listed f b .only x k in
     omega (arith, lawful f b .long x o, short f b (object-allowed f b x o))
 
-body-long : (f : Family) (b : Lent) → length (body (listing f b)) ≤ longestBody
+body-long : (s : ℕ) (f : Family) (b : Lent) → length (body s (listing f b)) ≤ longestBody
 unfolding body
-body-long f b = up-to-long listedAtMost (listing f b) (short-objects f b)
+body-long s f b = up-to-long s listedAtMost (listing f b) (short-objects f b)
 
 family-long : (f : Family) → length (familyColumns f) ≡ familyWidth
 unfolding familyColumns
 family-long f = simp (length-append, length-column fieldWidth (f .kind), length-column fieldWidth (f .n), length-column fieldWidth (f .k))
 
-first-long : (f : Family) (count : Bytes) → length (firstLine f count) ≡ familyWidth + (length count + 1)
+pub first-long : (f : Family) (count : Bytes) → length (firstLine f count) ≡ familyWidth + (length count + 1)
 unfolding firstLine
 first-long f count = simp (length-append, family-long f)
 
@@ -73,24 +74,24 @@ refused-long : (q : ℕ) → length (refusedText q) ≡ refusedWidth
 unfolding refusedText
 refused-long q = simp (length-append, length-column fieldWidth q)
 
-listed-long : (count : Bytes) (f : Family) (b : Lent) → length count ≡ countWidth → length (listedText count f b) ≤ largest
+listed-long : (s : ℕ) (count : Bytes) (f : Family) (b : Lent) → length count ≡ countWidth → length (listedText s count f b) ≤ largest
 unfolding listedText
-listed-long count f b e = rw (length-append, first-long f count) (omega (arith, body-long f b))
+listed-long s count f b e = rw (length-append, first-long f count) (omega (arith, body-long s f b))
 
-uncounted-long : (many : Bool) (f : Family) (b : Lent) (q : ℕ) → length (cond many (listedText (justified countWidth wordMany) f b) (refusedText q)) ≤ largest
+uncounted-long : (s : ℕ) (many : Bool) (f : Family) (b : Lent) (q : ℕ) → length (cond many (listedText s (justified countWidth wordMany) f b) (refusedText q)) ≤ largest
 unfolding justified
-uncounted-long true f b q = listed-long (justified countWidth wordMany) f b refl
-uncounted-long false f b q = omega (arith, refused-long q)
+uncounted-long s true f b q = listed-long s (justified countWidth wordMany) f b refl
+uncounted-long s false f b q = omega (arith, refused-long q)
 
-said-long : (o : Option ℕ) (f : Family) (b : Lent) → length (said o f b) ≤ largest
+said-long : (s : ℕ) (o : Option ℕ) (f : Family) (b : Lent) → length (said s o f b) ≤ largest
 unfolding said
-said-long none f b = listed-long (column countWidth (countOf f b)) f b (length-column countWidth (countOf f b))
-said-long (some q) f b = uncounted-long (eqb q 5) f b q
+said-long s none f b = listed-long s (column countWidth (countOf f b)) f b (length-column countWidth (countOf f b))
+said-long s (some q) f b = uncounted-long s (eqb q 5) f b q
 
 text-long : (s : Option Slip) → length (textOf s) ≤ largest
 unfolding textOf familyText
 text-long none = omega (arith, refused-long 9)
-text-long (some s) = said-long (refusal COUNT (s .family) (lentBy s) 0 (isObject (s .family) (lentBy s) [])) (s .family) (lentBy s)
+text-long (some s) = said-long (s .head .start) (refusal COUNT (familyOf s) (lentBy s) 0 (isObject (familyOf s) (lentBy s) [])) (familyOf s) (lentBy s)
 
 -- the constant is right: it serves every slip
 pub output-fits : (x : Bytes) → length (output x) ≤ largest

@@ -1,32 +1,17 @@
--- How many objects are listed at most, and how long the lines, the longest slip and the longest text are (SCOPE 7).
+-- How many objects are listed at most, and how long the lines and the longest text are (SCOPE 7).
 -- Assumes nothing.
 use Prim.Native.Nat.{ℕ, _+_, _*_}
 use Rattle.basics.specs.Limits.{longestObject}
-use Rattle.columns.specs.Fields.{fieldWidth, largestField}
+use Rattle.columns.specs.Fields.{fieldWidth}
+use Rattle.grammar.specs.Sizes.{familyWidth}
 
 -- "the count in 20", "rank in 20 columns", "the line END, right-justified in 20 columns" (SCOPE 7.4)
 abbrev pub countWidth : ℕ
 countWidth = 20
 
--- a line of m fields, and its newline (SCOPE 7.2)
-abbrev pub lineWidth : ℕ → ℕ
-lineWidth m = fieldWidth * m + 1
-
--- "a second line of n counts", where n is a field itself (SCOPE 7.2)
-abbrev pub mostCounts : ℕ
-mostCounts = largestField
-
--- the longest slip: its three numbers, and the longest second line
-abbrev pub longestSlip : ℕ
-longestSlip = lineWidth 3 + lineWidth mostCounts
-
 -- "1,000 are listed" (SCOPE 7.5)
 abbrev pub listedAtMost : ℕ
 listedAtMost = 1000
-
--- "kind, n, k in 4 columns each" (SCOPE 7.4)
-abbrev pub familyWidth : ℕ
-familyWidth = fieldWidth * 3
 
 -- "kind, n, k in 4 columns each and the count in 20", and the newline (SCOPE 7.4)
 abbrev pub firstLineWidth : ℕ

@@ -1,18 +1,17 @@
-// The program's text, proved: a slip read, and the listing of its family written.
+// The program's text, proved: a slip read, and the listing of its family written, numbered as the slip says.
 ghost use mathlib.Core.Path.{_≡_};
 ghost use lib.ListN.{length};
 ghost use Rattle.slip.specs.Rendering.{Renders};
-ghost use Rattle.slip.specs.Sizes.{mostCounts};
+ghost use Rattle.grammar.specs.Sizes.{mostCounts};
 
-mod grammar;
 mod limits;
 mod listing;
 
 use families::only_counts;
+use families::plain_family;
+use grammar::MOST_COUNTS;
 use grammar::Parsed;
 pub use limits::LARGEST;
-pub use limits::LONGEST_SLIP;
-use limits::MOST_COUNTS;
 
 // The text is so many bytes at the start of the buffer; or the buffer is shorter than the longest text, and left as it was.
 pub enum Rendered {
@@ -35,9 +34,10 @@ pub fn render(input: &[u8], out: &mut [u8]) -> Rendered
         return Rendered::Short;
     }
     let mut counts = no_counts();
-    let Parsed::Slip(f, m) = grammar::parse(input, &mut counts) else {
+    let Parsed::Slip(head, m) = grammar::parse(input, &mut counts) else {
         return Rendered::Text(listing::put_refused(out, 0, 9));
     };
+    let f = plain_family(head.kind, head.n, head.k);
     let lists = only_counts(&counts[..m]);
-    Rendered::Text(listing::put_text(out, f, lists))
+    Rendered::Text(listing::put_text(out, head.start, f, lists))
 }

@@ -26,7 +26,8 @@ ghost use Rattle.families.specs.Families.{allowed, objectLength, listing};
 ghost use Rattle.columns.specs.Columns.{column};
 ghost use Rattle.columns.specs.Fields.{fieldWidth};
 ghost use Rattle.columns.specs.inner.Writing.{Wrote};
-ghost use Rattle.slip.specs.Sizes.{countWidth, familyWidth, objectLineWidth, lastLineWidth, refusedWidth, longestBody, largest};
+ghost use Rattle.grammar.specs.Sizes.{familyWidth};
+ghost use Rattle.slip.specs.Sizes.{countWidth, objectLineWidth, lastLineWidth, refusedWidth, longestBody, largest};
 ghost use Rattle.slip.specs.Text.{wordEnd, wordMore, familyColumns, objectLine, lastLine, body, listedText, refusedText, said, familyText};
 
 // "REFUSED and the number in 4 columns".
@@ -78,21 +79,22 @@ fn put_bytes(out: &mut [u8], at: usize, object: &[u8]) -> usize
     end
 }
 
-// A line of an object: its rank in 20 columns, and its bytes.
-fn put_object(out: &mut [u8], at: usize, rank: u64, object: &[u8]) -> usize
+// A line of an object: its number in 20 columns, and its bytes.
+fn put_object(out: &mut [u8], at: usize, number: u64, object: &[u8]) -> usize
     requires { ⌜ at + objectLineWidth (length (now object)) ≤ length (now out) ⌝ }
     ensures { λ r. ⌜ r ≡ at + objectLineWidth (length (now (object .entry))) ⌝ }
-    ensures { λ r. ⌜ Wrote (now (out .entry)) at (now (out .exit)) r (objectLine rank (now (object .entry))) ⌝ }
+    ensures { λ r. ⌜ Wrote (now (out .entry)) at (now (out .exit)) r (objectLine number (now (object .entry))) ⌝ }
 {
-    let start = put_column(out, at, COUNT_WIDTH, rank);
-    let end = put_bytes(out, start, object);
+    let column = put_column(out, at, COUNT_WIDTH, number);
+    let end = put_bytes(out, column, object);
     put_byte(out, end, b'\n')
 }
 
-// The first objects, from the earliest on, which stands in the buffer, and END or MORE.
+// The first objects, from the earliest on, which stands in the buffer and gets the number start, and END or MORE.
 fn put_objects<'a>(
     out: &mut [u8],
     at: usize,
+    start: u8,
     f: Family,
     lists: Lists<'a>,
     object: &mut [u8],
@@ -100,12 +102,12 @@ fn put_objects<'a>(
     requires { ⌜ at + longestBody ≤ length (now out) ⌝ }
     requires { ⌜ length (now object) ≤ longestObject ⌝ }
     requires { ⌜ First (listing f (lent (map now lists))) (now object) ⌝ }
-    ensures { λ r. ⌜ Wrote (now (out .entry)) at (now (out .exit)) r (body (listing f (lent (map now (lists .entry))))) ⌝ }
+    ensures { λ r. ⌜ Wrote (now (out .entry)) at (now (out .exit)) r (body start (listing f (lent (map now (lists .entry))))) ⌝ }
 {
     let mut end = at;
     let mut rank: u64 = 0;
     while rank < LISTED_AT_MOST {
-        end = put_object(out, end, rank, object);
+        end = put_object(out, end, start as u64 + rank, object);
         let Stepped::Moved = families::next(f, lists, object) else {
             return put_last(out, end, false);
         };
@@ -118,6 +120,7 @@ fn put_objects<'a>(
 fn put_listing<'a>(
     out: &mut [u8],
     at: usize,
+    start: u8,
     f: Family,
     lists: Lists<'a>,
     object: &mut [u8],
@@ -126,45 +129,45 @@ fn put_listing<'a>(
     requires { ⌜ length (now object) ≤ longestObject ⌝ }
     requires { ⌜ length (now object) ≡ objectLength f (lent (map now lists)) ⌝ }
     requires { ⌜ allowed f (lent (map now lists)) ≡ true ⌝ }
-    ensures { λ r. ⌜ Wrote (now (out .entry)) at (now (out .exit)) r (body (listing f (lent (map now (lists .entry))))) ⌝ }
+    ensures { λ r. ⌜ Wrote (now (out .entry)) at (now (out .exit)) r (body start (listing f (lent (map now (lists .entry))))) ⌝ }
 {
     let Written::Done = families::first(f, lists, object) else {
         return put_last(out, at, false);
     };
-    put_objects(out, at, f, lists, object)
+    put_objects(out, at, start, f, lists, object)
 }
 
 // Everything behind the first line.
-fn put_body<'a>(out: &mut [u8], at: usize, f: Family, lists: Lists<'a>) -> usize
+fn put_body<'a>(out: &mut [u8], at: usize, start: u8, f: Family, lists: Lists<'a>) -> usize
     requires { ⌜ at + longestBody ≤ length (now out) ⌝ }
     requires { ⌜ allowed f (lent (map now lists)) ≡ true ⌝ }
-    ensures { λ r. ⌜ Wrote (now (out .entry)) at (now (out .exit)) r (body (listing f (lent (map now (lists .entry))))) ⌝ }
+    ensures { λ r. ⌜ Wrote (now (out .entry)) at (now (out .exit)) r (body start (listing f (lent (map now (lists .entry))))) ⌝ }
 {
     let Length::Bytes(size) = families::object_length(f, lists) else {
         return at;
     };
     let mut space = [0u8; LONGEST_OBJECT];
     let len = size as usize;
-    put_listing(out, at, f, lists, &mut space[..len])
+    put_listing(out, at, start, f, lists, &mut space[..len])
 }
 
 // The text of a family whose count is known.
-fn put_counted<'a>(out: &mut [u8], n: u64, f: Family, lists: Lists<'a>) -> usize
+fn put_counted<'a>(out: &mut [u8], n: u64, start: u8, f: Family, lists: Lists<'a>) -> usize
     requires { ⌜ largest ≤ length (now out) ⌝ }
     requires { ⌜ allowed f (lent (map now lists)) ≡ true ⌝ }
-    ensures { λ r. ⌜ Wrote (now (out .entry)) 0 (now (out .exit)) r (listedText (column countWidth n) f (lent (map now (lists .entry)))) ⌝ }
+    ensures { λ r. ⌜ Wrote (now (out .entry)) 0 (now (out .exit)) r (listedText start (column countWidth n) f (lent (map now (lists .entry)))) ⌝ }
 {
     let family = put_family(out, 0, f);
     let count = put_column(out, family, COUNT_WIDTH, n);
     let line = put_byte(out, count, b'\n');
-    put_body(out, line, f, lists)
+    put_body(out, line, start, f, lists)
 }
 
 // MANY for a count that doesn't fit, and any other refusal by its number.
-fn put_uncounted<'a>(out: &mut [u8], q: u64, f: Family, lists: Lists<'a>) -> usize
+fn put_uncounted<'a>(out: &mut [u8], q: u64, start: u8, f: Family, lists: Lists<'a>) -> usize
     requires { ⌜ largest ≤ length (now out) ⌝ }
     requires { ⌜ (q ≡ 5 → allowed f (lent (map now lists)) ≡ true) ⌝ }
-    ensures { λ r. ⌜ Wrote (now (out .entry)) 0 (now (out .exit)) r (said (some q) f (lent (map now (lists .entry)))) ⌝ }
+    ensures { λ r. ⌜ Wrote (now (out .entry)) 0 (now (out .exit)) r (said start (some q) f (lent (map now (lists .entry)))) ⌝ }
 {
     if q != 5 {
         return put_refused(out, 0, q);
@@ -172,16 +175,16 @@ fn put_uncounted<'a>(out: &mut [u8], q: u64, f: Family, lists: Lists<'a>) -> usi
     let family = put_family(out, 0, f);
     let count = put_justified(out, family, COUNT_WIDTH, b"MANY");
     let line = put_byte(out, count, b'\n');
-    put_body(out, line, f, lists)
+    put_body(out, line, start, f, lists)
 }
 
 // The whole text of a well-formed slip.
-pub fn put_text<'a>(out: &mut [u8], f: Family, lists: Lists<'a>) -> usize
+pub fn put_text<'a>(out: &mut [u8], start: u8, f: Family, lists: Lists<'a>) -> usize
     requires { ⌜ largest ≤ length (now out) ⌝ }
-    ensures { λ r. ⌜ Wrote (now (out .entry)) 0 (now (out .exit)) r (familyText f (lent (map now (lists .entry)))) ⌝ }
+    ensures { λ r. ⌜ Wrote (now (out .entry)) 0 (now (out .exit)) r (familyText start f (lent (map now (lists .entry)))) ⌝ }
 {
     match families::count(f, lists) {
-        Counted::Objects(n) => put_counted(out, n, f, lists),
-        Counted::Refused(q) => put_uncounted(out, q as u64, f, lists),
+        Counted::Objects(n) => put_counted(out, n, start, f, lists),
+        Counted::Refused(q) => put_uncounted(out, q as u64, start, f, lists),
     }
 }

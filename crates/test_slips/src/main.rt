@@ -1,15 +1,16 @@
 // Renders many slips, the files that its arguments name: for each a line with the name, the length of the text and a digest of it, and the
 // lines of the text where it is short, the name before each.
 //
-// The expected text, `stdout`, is written by tests/expected/slips.py, which reads the same slips and has Python's formatting. Its listings
-// of at most 100 objects of 8 bytes are strings filtered by the table's words and sorted by a comparison; longer ones follow Loehr's
-// recursion.
+// The expected text, `stdout`, begins with what was printed for the same slips when numbers started at 0 (tests/expected/slips_from_0.txt).
+// The rest is written by tests/expected/slips.py, which reads the same slips and has Python's formatting. Its listings of at most 100
+// objects of 8 bytes are strings filtered by the table's words and sorted by a comparison; longer ones follow Loehr's recursion.
 ghost use mathlib.Core.Path.{_≡_};
 ghost use Prim.Native.Nat.{_≤_, _+_};
 ghost use lib.ListN.{length};
-ghost use Rattle.slip.specs.Sizes.{longestSlip, largest};
+ghost use Rattle.grammar.specs.Sizes.{longestSlip};
+ghost use Rattle.slip.specs.Sizes.{largest};
+use grammar::LONGEST_SLIP;
 use slip::LARGEST;
-use slip::LONGEST_SLIP;
 use slip::Rendered;
 use test_support::digest;
 use test_support::lines;

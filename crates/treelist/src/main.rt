@@ -1,15 +1,16 @@
 // `treelist`: reads one slip from standard input and prints the listing of its family. What it prints is made, and proved, in `slip`.
 // A program has no exit status: a read or a write that fails is said on standard error, where nothing else is said.
+use grammar::LONGEST_SLIP;
 use libc::STDERR_FILENO;
 use libc::STDIN_FILENO;
 use libc::STDOUT_FILENO;
 use slip::LARGEST;
-use slip::LONGEST_SLIP;
 use slip::Rendered;
 ghost use mathlib.Core.Path.{_≡_};
 ghost use Prim.Native.Nat.{ℕ, _+_, _≤_};
 ghost use lib.ListN.{length};
-ghost use Rattle.slip.specs.Sizes.{longestSlip, largest};
+ghost use Rattle.grammar.specs.Sizes.{longestSlip};
+ghost use Rattle.slip.specs.Sizes.{largest};
 ghost use Rattle.treelist.specs.declared.Input.the-variants.{Bytes};
 
 // One byte more than the longest slip, by which a longer input is seen.

@@ -9,7 +9,7 @@ use Rattle.slip.proofs.listing.put_counted.Statement.{statement}
 use Rattle.slip.proofs.listing.put_counted.Tie as tie
 
 returns : tie.Need-returns
-returns c = let a = c .before .before .before .before .before .before .before .before .before .before .before .before .before .before .before .before .before .args in headed (a .f) (lent (map now (a .lists))) (c .before .before .before .before .before .before .before .before .before .before .before .before .before .before .put-family .ensures .1) (c .before .before .before .before .before .before .before .before .before .before .put-column .ensures .1) (c .before .before .before .before .before .before .put-byte .ensures .1) (c .before .before .put-body .ensures)
+returns c = let a = c .before .before .before .before .before .before .before .before .before .before .before .before .before .before .before .before .before .args in headed (a .start) (a .f) (lent (map now (a .lists))) (c .before .before .before .before .before .before .before .before .before .before .before .before .before .before .put-family .ensures .1) (c .before .before .before .before .before .before .before .before .before .before .put-column .ensures .1) (c .before .before .before .before .before .before .put-byte .ensures .1) (c .before .before .put-body .ensures)
 
 pub put-counted-spec : {M : Type 1} → statement M
 put-counted-spec =

@@ -14,7 +14,7 @@ returns : tie.Need-returns
 returns c =
     let a = c .before .before .before .before .before .before .before .before .before .before .before .before .args in
     let b = lent (map now (a .lists)) in
-    nothing-listed (listing (a .f) b) (starts-none (a .f) b (a .object .now) (c .before .before .before .before .before .before .before .before .before .before .before .before .pre .1 .1 .1) (c .before .before .before .before .before .before .before .before .before .before .before .before .pre .1 .1 .0) not-written (rw (c .before .before .before .before .enum-told2 .given .1) at (c .before .before .before .before .before .before .before .before .first .ensures))) (c .before .before .put-last .ensures)
+    nothing-listed (a .start) (listing (a .f) b) (starts-none (a .f) b (a .object .now) (c .before .before .before .before .before .before .before .before .before .before .before .before .pre .1 .1 .1) (c .before .before .before .before .before .before .before .before .before .before .before .before .pre .1 .1 .0) not-written (rw (c .before .before .before .before .enum-told2 .given .1) at (c .before .before .before .before .before .before .before .before .first .ensures))) (c .before .before .put-last .ensures)
 
 put-objects-requires : tie.Need-put-objects-requires
 put-objects-requires c κs =

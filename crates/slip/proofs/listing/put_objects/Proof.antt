@@ -23,15 +23,15 @@ use Rattle.slip.proofs.listing.put_objects.Statement.{statement}
 use Rattle.slip.proofs.listing.put_objects.Tie as tie
 
 abbrev Inv-loop : tie.InvT-loop
-Inv-loop out₀ at f lists object₀ end₀ rank₀ out object end rank =
+Inv-loop out₀ at start f lists object₀ end₀ rank₀ out object end rank =
     (rank ≤ listedAtMost)
     × ((length out ≡ length out₀)
     × ((length object ≡ length object₀)
     × ((end ≤ at + objectLineWidth longestObject * rank)
-    × (At (listing f (lent (map now lists))) object rank × Wrote out₀ at out end (objectLines 0 (take rank (listing f (lent (map now lists)))))))))
+    × (At (listing f (lent (map now lists))) object rank × Wrote out₀ at out end (objectLines start (take rank (listing f (lent (map now lists)))))))))
 
 abbrev μ-loop : tie.MeasureT-loop
-μ-loop out₀ at f lists object₀ end₀ rank₀ out object end rank = listedAtMost - rank
+μ-loop out₀ at start f lists object₀ end₀ rank₀ out object end rank = listedAtMost - rank
 
 loop-holds : tie.Need-loop-holds Inv-loop μ-loop
 unfolding objectLines
@@ -49,20 +49,20 @@ returns c =
     let n = c .before .before .before .before .before .before .before in let p = put n in let l = head p .loop in
     let a = head p .before .before .before .args in let s = listing (a .f) (lent (map now (a .lists))) in let here = l .inv .1 .1 .1 .1 .0 in
     let last = stops (a .f) (lent (map now (a .lists))) (l .rank) here (not-moved (n .next .result) (c .before .before .before .before .match .keys2)) (n .next .ensures) in
-    ended s (l .rank + 1) (line-written s (l .rank) (l .inv .1 .1 .1 .1 .1) here (p .put-object .ensures .1)) (omega arith) (omega arith) (c .before .before .put-last .ensures)
+    ended (a .start) s (l .rank + 1) (line-written (a .start) s (l .rank) (l .inv .1 .1 .1 .1 .1) here (p .put-object .ensures .1)) (omega arith) (omega arith) (c .before .before .put-last .ensures)
 
 loop-again : tie.Need-loop-again Inv-loop μ-loop
 loop-again c =
     let n = c .before .before .before .before in let p = put n in let l = head p .loop in
     let a = head p .before .before .before .args in let s = listing (a .f) (lent (map now (a .lists))) in let here = l .inv .1 .1 .1 .1 .0 in
     let there = moves-on (a .f) (lent (map now (a .lists))) (l .rank) here (rw (c .enum-told .given .1) at (n .next .ensures)) in
-    (omega arith, (search needs, (search needs, (omega arith, (rw add-one there, line-written s (l .rank) (l .inv .1 .1 .1 .1 .1) here (p .put-object .ensures .1))))))
+    (omega arith, (search needs, (search needs, (omega arith, (rw add-one there, line-written (a .start) s (l .rank) (l .inv .1 .1 .1 .1 .1) here (p .put-object .ensures .1))))))
 
 returns-2 : tie.Need-returns-2 Inv-loop μ-loop
 returns-2 c =
     let h = c .before .before .before .before .before in let l = h .loop in
     let a = h .before .before .before .args in let s = listing (a .f) (lent (map now (a .lists))) in
-    cut s (l .rank) (l .inv .1 .1 .1 .1 .1) (at-below s (l .rank) (l .inv .1 .1 .1 .1 .0)) (omega arith) (c .before .before .put-last2 .ensures)
+    cut (a .start) s (l .rank) (l .inv .1 .1 .1 .1 .1) (at-below s (l .rank) (l .inv .1 .1 .1 .1 .0)) (omega arith) (c .before .before .put-last2 .ensures)
 
 pub put-objects-spec : {M : Type 1} → statement M
 put-objects-spec =
@@ -71,6 +71,7 @@ put-objects-spec =
     Inv-loop
     μ-loop
     loop-holds
+    (λ c. search needs)
     (λ c κs. search needs)
     (λ c κs. search needs)
     (λ c. search needs)

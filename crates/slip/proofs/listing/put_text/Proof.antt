@@ -20,10 +20,10 @@ put-uncounted-requires : tie.Need-put-uncounted-requires
 put-uncounted-requires c κs = let e = c .before .before .before .before in (search needs, λ q. many-allowed (e .before .before .args .f) (lists e) (rw q at (rw (c .before .before .q .given .1) at (e .count .ensures))))
 
 returns : tie.Need-returns
-returns c = let n = c .before .before .before .before .before in let e = n .before .before in rw (text-counted (e .before .before .args .f) (lists e) (rw (n .n .given .1) at (e .count .ensures))) (c .before .before .put-counted .ensures)
+returns c = let n = c .before .before .before .before .before in let e = n .before .before in rw (text-counted (e .before .before .args .start) (e .before .before .args .f) (lists e) (rw (n .n .given .1) at (e .count .ensures))) (c .before .before .put-counted .ensures)
 
 returns-2 : tie.Need-returns-2
-returns-2 c = let q = c .before .before .before .before .before in let e = q .before .before in rw (text-refused (e .before .before .args .f) (lists e) (rw (q .q .given .1) at (e .count .ensures))) (c .before .before .put-uncounted .ensures)
+returns-2 c = let q = c .before .before .before .before .before in let e = q .before .before in rw (text-refused (e .before .before .args .start) (e .before .before .args .f) (lists e) (rw (q .q .given .1) at (e .count .ensures))) (c .before .before .put-uncounted .ensures)
 
 pub put-text-spec : {M : Type 1} → statement M
 put-text-spec =
