@@ -34,6 +34,7 @@ fields-front zero n x h = refl
 fields-front (suc m) n x h =
     rw (take-take fieldWidth n x (omega arith), shorter fieldWidth n x (omega arith), fields-front m (n - fieldWidth) (drop fieldWidth x) (omega arith))
 
+-- by a test: what holds both ways
 either : {A : Type 0} (P : A → Type 0) (b : Bool) {s t : A} → P s → P t → P (cond b s t)
 either P true p q = p
 either P false p q = q
@@ -55,7 +56,7 @@ module _ (m : ℕ) (x : Bytes) where
       ∙ fields-front m (lineWidth m) x (omega arith)
 
   -- what holds of nothing and of the fields
-  pub first-either : (P : Option (List ℕ) → Type 0) → P none → P (fields m x) → P first
+  first-either : (P : Option (List ℕ) → Type 0) → P none → P (fields m x) → P first
   unfolding line
   first-either P p q = either P (eqb (length (take (lineWidth m) x)) (lineWidth m) && eqb (getD (take (lineWidth m) x) (fieldWidth * m) 0) newline) (rw (fields-front m (lineWidth m) x (omega arith)) q) p
 
@@ -68,13 +69,9 @@ pub four-on : (x : Bytes) → (getD x familyWidth 0 ≡ newline → ⊥) → fie
 unfolding fieldsOn
 four-on x h = rw (ne-eqb (getD x familyWidth 0) newline h)
 
-three-or-four : (b : Bool) → 3 ≤ cond b 3 4
-three-or-four true = omega arith
-three-or-four false = omega arith
-
 at-least-three : (x : Bytes) → 3 ≤ fieldsOn x
 unfolding fieldsOn
-at-least-three x = three-or-four (eqb (getD x familyWidth 0) newline)
+at-least-three x = either (λ m. 3 ≤ m) (eqb (getD x familyWidth 0) newline) (omega arith) (omega arith)
 
 -- a field doesn't start with a newline, so no first line has both
 pub field-newline : (x : Bytes) → getD x 0 0 ≡ newline → field x ≡ none
