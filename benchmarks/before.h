@@ -16,13 +16,9 @@ static inline before_family before_family_of(arrangement_family f) {
     return g;
 }
 
-enum { BEFORE_PLACES = 80 };
-
-/* Can it be asked about this family? It has kinds 1 to 7, with n, k and the sum of the letter counts up to 80. */
-static inline int before_answers(arrangement_family f, const arrangement_lists *lists) {
-    uint64_t sum = 0;
-    for (size_t i = 0; i < lists->counts.length; i++) sum += lists->counts.bytes[i];
-    return f.kind <= 7 && f.n <= BEFORE_PLACES && f.k <= BEFORE_PLACES && sum <= BEFORE_PLACES;
+/* Can it be asked about this family? It has kinds 1 to 7. */
+static inline int before_answers(arrangement_family f) {
+    return f.kind <= 7;
 }
 #else
 typedef arrangement_family before_family;
@@ -31,9 +27,8 @@ static inline before_family before_family_of(arrangement_family f) {
     return f;
 }
 
-static inline int before_answers(arrangement_family f, const arrangement_lists *lists) {
+static inline int before_answers(arrangement_family f) {
     (void)f;
-    (void)lists;
     return 0;
 }
 #endif

@@ -9,7 +9,7 @@ each := function(n, k, m)
     for i in [1 .. m] do x := i; od;
     return (full - (NanosecondsSinceEpoch() - start)) / m;
 end;;
-for p in [[8, 4], [40, 20], [67, 33], [80, 21], [120, 15]] do
+for p in [[8, 4], [40, 20], [67, 33], [80, 21]] do
     best := Minimum(List([1 .. 9], i -> each(p[1], p[2], 20000)));;
     Print("1 subsets (", p[1], ", ", p[2], ")|random|COUNT|GAP|", Int(best), "\n");
 od;

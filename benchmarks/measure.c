@@ -1,8 +1,8 @@
 /* Times COUNT, NEXT, PREVIOUS, RANK and UNRANK on random objects, in the library and beside it, a walk's steps beside NEXT or PREVIOUS followed by
- * RANK, jumps beside COUNT, RANK and UNRANK, and the check of a listing beside NEXT from object to object, in one run; and COUNT of subsets at every
- * row. With `count` as its argument it runs every measurement but that of the rows once, for callgrind to count instructions. Prints one line a
- * measurement: family, call, who, nanoseconds a call, or an entry of the list that is checked; and of each list its entries. An earlier build of the
- * library may be linked beside today's, its functions renamed (`before.h`), for the calls alone. */
+ * RANK, jumps beside COUNT, RANK and UNRANK, and the check of a listing beside NEXT from object to object, in one run. With `count` as its argument it
+ * runs every measurement once, for callgrind to count instructions. Prints one line a measurement: family, call, who, nanoseconds a call, or an entry
+ * of the list that is checked; and of each list its entries. An earlier build of the library may be linked beside today's, its functions renamed
+ * (`before.h`), for the calls alone. */
 #include "../include/arrangements.h"
 #include "before.h"
 #include "others.h"
@@ -13,15 +13,14 @@
 #include <time.h>
 #include <valgrind/callgrind.h>
 
-enum { POOL = 256, PLACES = 80, WIDE_PLACES = 120 }; /* kinds 1 and 2 are the wide ones */
-/* objects of a listing that is checked whole, or else of its beginning; bytes */
-enum { MOST_WHOLE = 100000, BEGINNING = 10000, ROOM = BEGINNING * WIDE_PLACES };
+enum { POOL = 256, PLACES = 80 };
+enum { MOST_WHOLE = 100000, BEGINNING = 10000, ROOM = 1 << 20 }; /* objects of a listing that is checked whole, or else of its beginning; bytes */
 
 typedef struct {
     const char *name; /* the family, as the table shows it */
     const char *pool; /* which objects: random ones, the one that costs most, the first ones, or the last ones */
     uint64_t kind, n, k, floor, edition;
-    uint8_t counts[WIDE_PLACES];
+    uint8_t counts[PLACES];
     size_t letters, len;
     int ranks; /* does the count fit? */
 } Family;
@@ -34,7 +33,7 @@ static const char *const WHO[] = {"library", "before", "plain", "c++", "gsl", "f
 
 enum { MOST = 5 }; /* how many can be measured beside each other */
 
-static uint8_t pool[POOL][WIDE_PLACES];
+static uint8_t pool[POOL][PLACES];
 static uint64_t ranks[POOL];   /* what UNRANK is asked for */
 static uint64_t numbers[POOL]; /* the rank of each object, where the count fits */
 static int64_t distances[POOL]; /* how far each jumps, then */
@@ -206,7 +205,7 @@ static uint64_t call(Who who, Call c, const Family *f, int i, uint8_t *x) {
     uint64_t value = 0;
     uint32_t code = 0;
     const uint8_t *counts = f->counts;
-    memcpy(x, pool[i], WIDE_PLACES);
+    memcpy(x, pool[i], PLACES);
     if (c > UNRANK) return c == JUMP ? jump(who, f, distances[i], x) : walk_step(who, c, f, numbers[i], x);
     if (who == LIBRARY) switch (c) {
         case COUNT: code = arrangement_count(family, &lists, &value); break;
@@ -258,7 +257,7 @@ static void fill_listing(const Family *f) {
 
 /* The check of the list, or in its place FIRST and as many times NEXT, the last of which looks behind the list. Not inlined either. */
 __attribute__((noinline)) static uint64_t through_listing(Who who, const Family *f) {
-    uint8_t x[WIDE_PLACES];
+    uint8_t x[PLACES];
     uint64_t place = 0, sum;
     if (who == LIBRARY) return arrangement_check(family, &lists, entries, listing, entries * f->len, &place) + place;
     sum = arrangement_first(family, &lists, x, f->len);
@@ -268,7 +267,7 @@ __attribute__((noinline)) static uint64_t through_listing(Who who, const Family 
 
 /* The library and the other must agree on every call that is timed. */
 static void agree(const Family *f, Call c, Who other) {
-    uint8_t a[WIDE_PLACES], b[WIDE_PLACES];
+    uint8_t a[PLACES], b[PLACES];
     for (int i = 0; i < POOL; i++) {
         uint64_t u = call(LIBRARY, c, f, i, a), v = call(other, c, f, i, b);
         if (u != v || memcmp(a, b, f->len) != 0) {
@@ -287,7 +286,7 @@ static double now(void) {
 
 /* Every object of the pool once; or the list, entry by entry. */
 static void whole_pool(Who who, Call c, const Family *f, int times) {
-    uint8_t x[WIDE_PLACES];
+    uint8_t x[PLACES];
     uint64_t sum = 0;
     for (int t = 0; t < times; t++) {
         if (c == CHECK) sum += through_listing(who, f);
@@ -340,14 +339,10 @@ static const Family FAMILIES[] = {
     {"1 subsets (67, 33)", "random", 1, 67, 33, 1, 1, {0}, 0, 33, 1},
     {"1 subsets (80, 21)", "random", 1, 80, 21, 1, 1, {0}, 0, 21, 1},
     {"1 subsets (80, 40)", "random", 1, 80, 40, 1, 1, {0}, 0, 40, 0},
-    {"1 subsets (120, 15)", "random", 1, 120, 15, 1, 1, {0}, 0, 15, 1},
-    {"1 subsets (120, 60)", "random", 1, 120, 60, 1, 1, {0}, 0, 60, 0},
     {"2 anagrams 3 2 2 1", "random", 2, 4, 0, 1, 1, {3, 2, 2, 1}, 4, 8, 1},
     {"2 anagrams 10 times 2", "random", 2, 10, 0, 1, 1, {2, 2, 2, 2, 2, 2, 2, 2, 2, 2}, 10, 20, 1},
     {"2 anagrams 70 5 3 2", "random", 2, 4, 0, 1, 1, {70, 5, 3, 2}, 4, 80, 1},
     {"2 anagrams 16 times 5", "random", 2, 16, 0, 1, 1, {5, 5, 5, 5, 5, 5, 5, 5, 5, 5, 5, 5, 5, 5, 5, 5}, 16, 80, 0},
-    {"2 anagrams 109 6 3 2", "random", 2, 4, 0, 1, 1, {109, 6, 3, 2}, 4, 120, 1},
-    {"2 anagrams 24 times 5", "random", 2, 24, 0, 1, 1, {5, 5, 5, 5, 5, 5, 5, 5, 5, 5, 5, 5, 5, 5, 5, 5, 5, 5, 5, 5, 5, 5, 5, 5}, 24, 120, 0},
     {"3 permutations 8", "random", 3, 8, 0, 1, 1, {0}, 0, 8, 1},
     {"3 permutations 14", "random", 3, 14, 0, 1, 1, {0}, 0, 14, 1},
     {"3 permutations 20", "random", 3, 20, 0, 1, 1, {0}, 0, 20, 1},
@@ -378,13 +373,12 @@ static const Family FAMILIES[] = {
     {"7 derangements 80", "random", 7, 80, 0, 1, 1, {0}, 0, 80, 0},
 };
 
-/* Objects whose step costs most, at doubled lengths and at the longest; of derangements those at both ends, too (their lengths are even). */
+/* Objects whose step costs most, at doubled lengths; of derangements those at both ends, too (their lengths are even). */
 static const Family GROWTH[] = {
     {"1 subsets (11, 10)", "costly", 1, 11, 10, 1, 1, {0}, 0, 10, 1},
     {"1 subsets (21, 20)", "costly", 1, 21, 20, 1, 1, {0}, 0, 20, 1},
     {"1 subsets (41, 40)", "costly", 1, 41, 40, 1, 1, {0}, 0, 40, 1},
     {"1 subsets (80, 79)", "costly", 1, 80, 79, 1, 1, {0}, 0, 79, 1},
-    {"1 subsets (120, 119)", "costly", 1, 120, 119, 1, 1, {0}, 0, 119, 1},
     {"3 permutations 10", "costly", 3, 10, 0, 1, 1, {0}, 0, 10, 1},
     {"3 permutations 20", "costly", 3, 20, 0, 1, 1, {0}, 0, 20, 1},
     {"3 permutations 40", "costly", 3, 40, 0, 1, 1, {0}, 0, 40, 0},
@@ -439,7 +433,7 @@ static void all_calls(const Family *f, int counting) {
         agree(f, c, PLAIN);
         Who who[MOST] = {LIBRARY, PLAIN};
         int number = 2, steps = c == NEXT || c == PREVIOUS;
-        if (before_answers(family, &lists)) {
+        if (before_answers(family)) {
             agree(f, c, BEFORE);
             who[number++] = BEFORE;
         }
@@ -453,82 +447,10 @@ static void all_calls(const Family *f, int counting) {
     if (f->pool[0] == 'r') check(f, counting);
 }
 
-/* COUNT of subsets at every row. Its 4,478 families are too many for rounds of 4 milliseconds each: a few calls of each make a round. */
-
-enum { ROW_CALLS = 16 };
-
-static double row_times[2][WIDE_PLACES + 1][WIDE_PLACES + 1]; /* by build, n and k: the best of the rounds; 0 where nothing is measured */
-
-static uint32_t subset_count(Who who, uint64_t *value) {
-    if (who == LIBRARY) return arrangement_count(family, &lists, value);
-    if (who == BEFORE) return earlier_count(earlier, &lists, value);
-    return plain_count(family.kind, family.n, family.k, family.floor, family.edition, lists.counts.bytes, 0, value);
-}
-
-/* Does the count fit? The library and the other must agree on that, and on the count. */
-static int agree_on_count(Who other) {
-    uint64_t u = 0, v = 0;
-    uint32_t code = subset_count(LIBRARY, &u), theirs = subset_count(other, &v);
-    if (code != theirs || u != v) {
-        fprintf(stderr, "COUNT of subsets (%llu, %llu): %s differs\n", (unsigned long long)family.n, (unsigned long long)family.k, WHO[other]);
-        exit(1);
-    }
-    return code == ARRANGEMENT_DONE;
-}
-
-static double row_time(Who who) {
-    uint64_t value = 0, sum = 0;
-    double from = now();
-    for (int t = 0; t < ROW_CALLS; t++) sum += subset_count(who, &value) + value;
-    sink = sum;
-    return (now() - from) / ROW_CALLS;
-}
-
-/* One round: of every row each k whose count fits, by each build that answers, in turn. */
-static void row_round(void) {
-    for (uint64_t n = 0; n <= WIDE_PLACES; n++)
-        for (uint64_t k = 0; k <= n; k++) {
-            family = arrangement_family_of(1, n, k);
-            earlier = before_family_of(family);
-            int fits = agree_on_count(PLAIN), builds = 1;
-            if (before_answers(family, &lists)) {
-                agree_on_count(BEFORE);
-                builds = 2;
-            }
-            for (int w = 0; fits && w < builds; w++) {
-                double each = row_time((Who)w), *best = &row_times[w][n][k];
-                if (*best == 0 || each < *best) *best = each;
-            }
-        }
-}
-
-/* Of a row the mean over k, and the largest with its k. */
-static void print_row(Who who, int n) {
-    const double *row = row_times[who][n];
-    double sum = 0;
-    int many = 0, largest = 0;
-    for (int k = 0; k <= n; k++) {
-        sum += row[k];
-        many += row[k] > 0;
-        if (row[k] > row[largest]) largest = k;
-    }
-    if (many == 0) return;
-    printf("1 subsets row %d|row|COUNT|%s|%.2f\n", n, WHO[who], sum / many);
-    printf("1 subsets row %d|row, k %d|COUNT|%s|%.2f\n", n, largest, WHO[who], row[largest]);
-}
-
-static void all_rows(void) {
-    lists = arrangement_no_lists();
-    for (int round = 0; round < 9; round++) row_round();
-    for (int n = 0; n <= WIDE_PLACES; n++)
-        for (int w = LIBRARY; w <= BEFORE; w++) print_row((Who)w, n);
-}
-
 int main(int argc, char **argv) {
     int counting = argc > 1 && strcmp(argv[1], "count") == 0;
     plain_prepare();
     for (size_t i = 0; i < sizeof FAMILIES / sizeof *FAMILIES; i++) all_calls(&FAMILIES[i], counting);
     for (size_t i = 0; i < sizeof GROWTH / sizeof *GROWTH; i++) all_calls(&GROWTH[i], counting);
-    if (!counting) all_rows();
     return 0;
 }

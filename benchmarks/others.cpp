@@ -15,10 +15,8 @@ uint32_t cpp_previous(uint8_t *object, size_t len) {
 #include <gsl/gsl_combination.h>
 #include <gsl/gsl_permutation.h>
 
-enum { POOL = 256, WIDE_PLACES = 120 };
-
-static size_t pool[POOL][WIDE_PLACES];
-static size_t data[WIDE_PLACES];
+static size_t pool[256][80];
+static size_t data[80];
 static gsl_combination subset = {0, 0, data};
 static gsl_permutation order = {0, data};
 

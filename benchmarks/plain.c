@@ -3,11 +3,10 @@
 #include <stdbool.h>
 #include <string.h>
 
-/* PLACES bounds kinds 3 to 5 and 7, WIDE_PLACES kinds 1 and 2. */
-enum { PLACES = 80, WIDE_PLACES = 120, BRANCHES = 40, FLOORS = 80, END = 100 };
+enum { PLACES = 80, BRANCHES = 40, FLOORS = 80, END = 100 };
 
 /* 0 within the triangle stands for 2^64 or more. */
-static uint64_t choose[WIDE_PLACES + 1][WIDE_PLACES + 1], blocks[PLACES + 1][PLACES + 1], parts[PLACES + 1][PLACES + 1];
+static uint64_t choose[PLACES + 1][PLACES + 1], blocks[PLACES + 1][PLACES + 1], parts[PLACES + 1][PLACES + 1];
 static uint64_t factorials[PLACES + 1], catalans[BRANCHES + 1];
 
 /* Derangements of 0, 1, .. up to the most below 2^64. */
@@ -25,11 +24,10 @@ static uint64_t times(uint64_t a, uint64_t b) {
 }
 
 void plain_prepare(void) {
-    for (int n = 0; n <= WIDE_PLACES; n++)
-        for (int k = 0; k <= n; k++) choose[n][k] = k == 0 || k == n ? 1 : add(choose[n - 1][k - 1], choose[n - 1][k]);
     for (int n = 0; n <= PLACES; n++) {
         factorials[n] = n == 0 ? 1 : times((uint64_t)n, factorials[n - 1]);
         for (int k = 0; k <= n; k++) {
+            choose[n][k] = k == 0 || k == n ? 1 : add(choose[n - 1][k - 1], choose[n - 1][k]);
             if (k == n || k == 1)
                 blocks[n][k] = parts[n][k] = 1;
             else if (k > 1) {
@@ -50,14 +48,14 @@ void plain_prepare(void) {
 
 /* Questions 1, 2, 10, 11 and 3, and the length of the objects. */
 static uint32_t table(uint64_t kind, uint64_t n, uint64_t k, uint64_t floor, uint64_t edition, const uint8_t *counts, size_t counts_len, size_t *length) {
-    uint64_t sum = 0, most = kind <= 2 ? WIDE_PLACES : PLACES;
+    uint64_t sum = 0;
     switch (kind) {
     case 1: case 4: case 5:
-        if (n > most || k > most) return 2;
+        if (n > PLACES || k > PLACES) return 2;
         *length = kind == 4 ? n : k;
         break;
     case 2: case 3: case 7:
-        if (n > most || k != 0) return 2;
+        if (n > PLACES || k != 0) return 2;
         *length = n;
         break;
     case 6:
@@ -73,7 +71,7 @@ static uint32_t table(uint64_t kind, uint64_t n, uint64_t k, uint64_t floor, uin
     if (counts_len != n) return 3;
     for (size_t i = 0; i < counts_len; i++) sum += counts[i];
     *length = sum;
-    return sum > most ? 3 : 0;
+    return sum > PLACES ? 3 : 0;
 }
 
 static bool has_object(uint64_t kind, uint64_t n, uint64_t k, uint64_t floor) {
@@ -120,7 +118,7 @@ static bool is_subset(uint64_t n, const uint8_t *x, size_t len) {
 }
 
 static bool is_anagram(const uint8_t *counts, size_t letters, const uint8_t *x, size_t len) {
-    uint8_t left[WIDE_PLACES];
+    uint8_t left[PLACES];
     memcpy(left, counts, letters);
     for (size_t i = 0; i < len; i++)
         if (x[i] == 0 || x[i] > letters || left[x[i] - 1]-- == 0) return false;
@@ -478,7 +476,7 @@ static uint32_t step(bool on, uint64_t kind, uint64_t n, uint64_t floor, uint64_
 
 /* Ranks. */
 
-/* words * s / m without a product above 64 bits, for s up to m up to 120. */
+/* words * s / m without a product above 64 bits, for s up to m up to 80. */
 static uint64_t share(uint64_t words, uint64_t s, uint64_t m) {
     return words / m * s + words % m * s / m;
 }
@@ -634,7 +632,7 @@ static void unrank_derangement(uint64_t rank, uint8_t *x, size_t n) {
 }
 
 static uint64_t rank_of(uint64_t kind, uint64_t n, uint64_t k, uint64_t floor, uint64_t edition, const uint8_t *counts, uint64_t count, const uint8_t *x, size_t len) {
-    uint8_t work[WIDE_PLACES];
+    uint8_t work[PLACES];
     uint64_t rank = 0;
     switch (kind) {
     case 1:
@@ -652,7 +650,7 @@ static uint64_t rank_of(uint64_t kind, uint64_t n, uint64_t k, uint64_t floor, u
 }
 
 static void unrank_of(uint64_t kind, uint64_t n, uint64_t k, uint64_t floor, uint64_t edition, const uint8_t *counts, uint64_t count, uint64_t rank, uint8_t *x, size_t len) {
-    uint8_t work[WIDE_PLACES];
+    uint8_t work[PLACES];
     size_t top = n;
     switch (kind) {
     case 1:

@@ -23,19 +23,11 @@ for path in glob.glob(f"{out}/callgrind.*"):
         counts[family, pool, call, who] = int(total[1]) / (times[family, pool, "ENTRIES", "library"] if call == "CHECK" else POOL)
 
 interpreted = next((w for (_, _, _, w) in times if w.startswith("sympy")), None)
-families = list(dict.fromkeys((f, p) for (f, p, _, w) in times if w == "library" and not p.startswith("row")))
+families = list(dict.fromkeys((f, p) for (f, p, _, w) in times if w == "library"))
 calls = ("COUNT", "NEXT", "PREVIOUS", "RANK", "UNRANK")
 walks = ("WALK NEXT", "WALK PREVIOUS")
 ends = {"first": ", the first 256", "last": ", the last 256"}
 earlier = any(w == "before" for (_, _, _, w) in times)
-row_means, row_largest = {}, {}  # of COUNT of subsets, by row and who: the mean over k, and the largest with its k
-for (family, pool, _, who), each in times.items():
-    if pool.startswith("row"):
-        row = int(family.split()[-1]), who
-        if pool == "row":
-            row_means[row] = each
-        else:
-            row_largest[row] = min((each, int(pool.split()[-1])), row_largest.get(row, (float("inf"), 0)))
 
 
 def ratio(a, b):
@@ -155,39 +147,9 @@ def check_targets(limit):
     say(*[f"  - missed: {r[2]} ({r[0]:.2f} by time, {r[1]:.2f} by instructions)" for r in rows if max(r[:2]) > limit])
 
 
-def over_rows(first, last, who):
-    """Of COUNT of subsets at these rows: the mean of their means, the largest, and its n and k."""
-    rows = [n for n in range(first, last + 1) if (n, who) in row_means]
-    if not rows:
-        return None, None, None
-    most, n, k = max((row_largest[n, who][0], n, row_largest[n, who][1]) for n in rows)
-    return sum(row_means[n, who] for n in rows) / len(rows), most, (n, k)
-
-
-def row_table():
-    say("| rows | mean, ns | largest, ns | at (n, k) |" + (" before's mean, ns | before's largest, ns | library / before, means |" if earlier else ""),
-        "|---|---:|---:|---:|" + ("---:|---:|---:|" if earlier else ""))
-    for first, last in ((0, 33), (34, 67), (68, 80), (81, 100), (101, 120)):
-        mean, most, at = over_rows(first, last, "library")
-        mean_before, most_before, _ = over_rows(first, last, "before")
-        before = f" {ns(mean_before)} | {ns(most_before)} | {ratio(mean, mean_before)} |" if earlier else ""
-        say(f"| {first} to {last} | {ns(mean)} | {ns(most)} | {at} |{before}")
-
-
-def row_targets(limit, noise):
-    """The largest COUNT of subsets; at the rows of the constant table the largest ratio of a row's mean to before's; what lies above the limits."""
-    _, most, at = over_rows(0, 120, "library")
-    say(f"- COUNT of subsets below {limit / 1000:.0f} microseconds at every row to 120: largest {ns(most)} ns {at}.")
-    say(*[f"  - missed: row {n} ({ns(t)} ns at k = {k})" for (n, who), (t, k) in row_largest.items() if who == "library" and t >= limit])
-    if earlier:
-        ratios = [(row_means[n, "library"] / row_means[n, "before"], n) for n in range(68)]
-        say(f"- COUNT of subsets at rows to 67 no slower than before (5 percent are noise): largest ratio of a row's means {max(ratios)[0]:.2f} (row {max(ratios)[1]}).")
-        say(*[f"  - missed: row {n} ({r:.2f})" for r, n in ratios if r > noise])
-
-
 def subset_ranks(limit):
     rows = [(counts[(f, p, "RANK", "library")] / counts[(f, p, "RANK", "plain")], times[(f, p, "RANK", "library")] / times[(f, p, "RANK", "plain")], f, p) for f, p in families if p == "random" and f[0] == "1" and (f, p, "RANK", "library") in times]
-    now = [f"{f[2:]} {times[(f, p, 'RANK', 'library')] / times[(f, p, 'RANK', 'before')]:.2f}" for _, _, f, p in rows if (f, p, "RANK", "before") in times]
+    now = [f"{f[2:]} {times[(f, p, 'RANK', 'library')] / times[(f, p, 'RANK', 'before')]:.2f}" for _, _, f, p in rows if earlier]
     say(f"- RANK of subsets at most {limit} times plain C by instructions: largest {max(rows)[0]:.2f} ({max(rows)[2]}); by time {min(r[1] for r in rows):.2f} to {max(r[1] for r in rows):.2f}"
         + (f"; against before, by time: {', '.join(now)}." if now else "."))
     say(*[f"  - missed: {r[2]} ({r[0]:.3f})" for r in rows if r[0] > limit])
@@ -255,7 +217,8 @@ def targets():
     say(*[f"  - missed: {m}" for m in missed_ranks])
     say(f"- RANK and UNRANK of subsets, set partitions and integer partitions at most 2 times plain C by instructions: largest {max(close)[0]:.2f} ({max(close)[1]}).")
     say(*[f"  - missed: {what} ({r:.2f})" for r, what in close if r > 2])
-    row_targets(2000, 1.05)
+    tables = {f: times[(f, p, "COUNT", "library")] for f, p in families if f[0] == "1" and (f, p, "COUNT", "library") in times}
+    say(f"- COUNT of subsets below 1 microsecond at every row: largest {ns(max(tables.values()))} ns ({max(tables, key=tables.get)}).")
     for who, call in (("PARI", "UNRANK"), ("GAP", "COUNT")):
         beside = [f"{f[2:]}: {ns(times[(f, p, call, 'library')])} against {ns(times[(f, p, call, who)])} ns" for f, p in families if (f, p, call, who) in times]
         if beside:
@@ -281,12 +244,12 @@ def targets():
 say("# Benchmarks", "", f"Written by `benchmarks/run` on {datetime.date.today()}: {shell('lscpu | sed -n s/^Model.name:[[:space:]]*//p')}, {shell('gcc --version | head -1')}, -O2.", "")
 say("Method. `benchmarks/measure.c` calls the library (`rt staticlib arrangements`) and `benchmarks/plain.c`, a plain implementation in C that puts the",
     "same questions and reads tables built beforehand, on the same 256 random objects and ranks of each family, in one run; the two must agree on",
-    "every call first. A time is the best of nine rounds of some 4 ms each in turn, at each of four places of the library in a line of 64 bytes and in a page",
-    "(elsewhere the same code takes up to a quarter more), in nanoseconds a call, with the copy of the object that a step is made on.",
+    "every call first. A time is the best of nine rounds of some 4 ms each in turn, at each of four places of the library in a line of 64 bytes (elsewhere in",
+    "it the same code takes up to a quarter more), in nanoseconds a call, with the copy of the object that a step is made on.",
     "Instructions are callgrind's for one pass over the 256, divided by 256. C++ is `next_permutation` or `prev_permutation`, which asks nothing;",
     "GSL's steps follow its validity check and go by dictionary; SymPy's are its nearest functions (all partitions rather than those with k parts;",
     "its subsets' rank, which lists, only for the small family). PARI's are numtoperm and permtonum, GAP's is Binomial.",
-    *(["Before is an earlier build of the library, linked beside today's at the same places, and measured in turn with it, up to 80 places."] if earlier else []), "")
+    *(["Before is an earlier build of the library, linked beside today's at the same places, and measured in turn with it."] if earlier else []), "")
 say("## Targets", "")
 targets()
 say("", "Why, by the profile:", "",
@@ -301,9 +264,7 @@ say("", "Why, by the profile:", "",
     "  takes a copy apart, in an array for the longest object; plain C copies as many bytes as there are.",
     "- Ranks of permutations and anagrams take a division or two for each place; SymPy's ranks of permutations are its fastest.",
     "- COUNT of subsets reads the constant table that paper 01 asks for. The compiler writes its 2,346 numbers out on the stack where it is used, once a",
-    "  call: that alone is most of the time, and what keeps COUNT behind GAP's Binomial. Beyond row 67 it is a sum of at most 54 products of two entries of",
-    "  the table, Vandermonde's; before, it was a window of 14 entries of row 67 and additions from row to row. The stores are 31 KB of code, about as much",
-    "  as the first cache for code holds here, 32 KB. Presumably for that either build takes some 480 to 610 ns by where it lies beside its caller.",
+    "  call: that alone is most of the time, and what keeps COUNT behind GAP's Binomial.",
     "- A walk's step is NEXT or PREVIOUS and some 200 instructions for the questions and the count. The count of anagrams, a product, takes up to 730; that of",
     "  set partitions above 26 models, a row of Stirling numbers, up to 2,350, so that these gain least among the large families.",
     "- A jump is RANK, a sum and UNRANK, which puts its questions over again, and no COUNT. So it gains most where COUNT is dear: subsets, and set",
@@ -317,12 +278,8 @@ say("", "Why, by the profile:", "",
     "- Question 11 and the edition take 4 or 5 instructions of a COUNT, 5 to 9 of a step of the other kinds and 9 to 14 of a RANK. UNRANK of set partitions takes up",
     "  to 72 more, since it tests the edition at each model. A step of theirs has two searches and two writers to choose from, and is as long as before: each is",
     "  shorter, with a branch where a model opens a block and none where its key moves.")
-say("", "## Growth", "", "Instructions of the library for a call on one object, at doubled lengths and at the longest; of derangements also on the first and the last 256, at each end.", "")
+say("", "## Growth", "", "Instructions of the library for a call on one object, at doubled lengths; of derangements also on the first and the last 256, at each end.", "")
 growth()
-say("", "## COUNT of subsets by rows", "",
-    "COUNT of every (n, k) up to row 120 whose count is below 2^64, the best of nine rounds of 16 calls each: the mean over k, averaged over the rows, and the",
-    "largest. Library and plain C must agree on every (n, k) first, also on those that are refused" + ("; so must before, up to row 80." if earlier else "."), "")
-row_table()
 say("", "## Walks", "",
     "A walk's step, with the object's own number, beside NEXT or PREVIOUS followed by RANK, on the same 256 objects of each family whose count is below 2^64;",
     "the two must agree on code, bytes and number first.", "")

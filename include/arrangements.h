@@ -12,8 +12,8 @@
  *
  * A family is (kind, n, k, floor, edition) and, for kind 2, a list of letter counts, one byte a letter; for other kinds the list is empty. The floor
  * is 1 for every kind but 5, the edition is 1 for every kind but 4.
- *   kind 1  subsets of k out of 1 to n, ascending          k bytes       n, k up to 120
- *   kind 2  anagrams: letter i (from 1) counts[i - 1] times sum bytes     n letters up to 120, sum up to 120, k = 0
+ *   kind 1  subsets of k out of 1 to n, ascending          k bytes       n, k up to 80
+ *   kind 2  anagrams: letter i (from 1) counts[i - 1] times sum bytes     n letters up to 80, sum up to 80, k = 0
  *   kind 3  permutations of 1 to n                          n bytes       n up to 80, k = 0
  *   kind 4  set partitions: byte i is the block of model i  n bytes       n, k up to 80, edition 1 or 2
  *   kind 5  integer partitions of n into k parts >= floor   k bytes       n, k up to 80, floor 1 to 80
@@ -44,7 +44,7 @@ extern "C" {
 #define ARRANGEMENT_REFUSED_BOUNDS 2u        /* are n and k within the table above? */
 #define ARRANGEMENT_REFUSED_FLOOR 10u        /* is the floor 1 to 80, and 1 for every kind but 5? */
 #define ARRANGEMENT_REFUSED_EDITION 11u      /* is the edition 1 or 2, and 1 for every kind but 4? */
-#define ARRANGEMENT_REFUSED_LETTER_COUNTS 3u /* for kind 2, is the count list n long with a sum of at most 120; is it empty for other kinds? */
+#define ARRANGEMENT_REFUSED_LETTER_COUNTS 3u /* for kind 2, is the count list n long with a sum of at most 80; is it empty for other kinds? */
 #define ARRANGEMENT_REFUSED_NO_OBJECTS 4u    /* has the family an object? (all but COUNT, which answers 0; a check too) */
 #define ARRANGEMENT_REFUSED_OVERFLOW 5u      /* is the count below 2^64? (COUNT, RANK, UNRANK, jumps, a walk's steps) */
 #define ARRANGEMENT_REFUSED_LENGTH 6u        /* has the buffer the object's length? (all but COUNT and a check) */

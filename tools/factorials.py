@@ -1,16 +1,16 @@
 #!/usr/bin/env python3
-"""Writes what `binomials` knows of the factorials 0! to 120!, and the last row of each column of binomial coefficients that fits 64 bits: the lists
+"""Writes what `binomials` knows of the factorials 0! to 80!, and the last column of each row of binomial coefficients that fits 64 bits: the lists
 (specs/inner/Factorials.antt), the code that reads them (src/factorials.rt) and its proofs (proofs/factorials/). The crate's proofs test the lists against
 the addition rule; nothing rests on this script.
 
     python3 tools/factorials.py [DIR] && rt fmt
 
-DIR is the folder of crates (default: crates). LAST is `widePlaces` of `basics`."""
+DIR is the folder of crates (default: crates). LAST is `places` of `basics`."""
 import os
 import sys
 from math import comb, factorial
 
-LAST = 120
+LAST = 80
 WORD = 2**64
 crate = (sys.argv[1] if len(sys.argv) > 1 else "crates") + "/binomials"
 
@@ -22,9 +22,8 @@ for n in range(LAST + 1):
     inverses.append(pow(f >> t, -1, WORD))
     twos.append(t)
 
-WHOLE = max(k for k in range(LAST // 2 + 1) if comb(LAST, k) < WORD)  # up to this column every row fits
-SOME = max(k for k in range(LAST // 2 + 1) if comb(2 * k, k) < WORD)  # beyond this one no row of whose left half it is
-rows = [max(n for n in range(2 * k, LAST + 1) if comb(n, k) < WORD) for k in range(WHOLE + 1, SOME + 1)]
+FULL = next(n for n in range(LAST + 1) if comb(n, n // 2) >= WORD)  # the first row that does not fit whole
+columns = [max(k for k in range(n // 2 + 1) if comb(n, k) < WORD) for n in range(FULL, LAST + 1)]
 
 
 def write(path, text):
@@ -40,29 +39,25 @@ def listed(name, title, numbers):
 
 write(
     "specs/inner/Factorials.antt",
-    f"-- The factorials of 0 to {LAST} by their odd parts and their factors 2, and the last rows that fit; written by tools/factorials.py.\n"
+    f"-- The factorials of 0 to {LAST} by their odd parts and their factors 2, and the last columns that fit; written by tools/factorials.py.\n"
     "-- Assumes nothing.\nuse mathlib.Core.List.{List, [], _∷_}\nuse Prim.Native.Nat.{ℕ}\nuse lib.ListN.{getD}\n"
     "use Rattle·binomials·specs.specs.declared.factorials.Parts.{Parts}\n\n"
     + listed("odds", "n! without its factors 2, modulo 2^64", odds)
     + listed("inverses", "the inverses of these modulo 2^64", inverses)
     + listed("twos", "how often 2 divides n!", twos)
     + "-- the three of n\nabbrev pub partsOf : ℕ → Parts\npartsOf n = (getD odds n 0, getD inverses n 0, getD twos n 0)\n\n"
-    + "-- up to this column of the left half every coefficient within the limit is below 2^64\n"
-    f"abbrev pub lastWhole : ℕ\nlastWhole = {WHOLE}\n\n"
-    + listed("lastRows", f"of the columns {WHOLE + 1}, {WHOLE + 2}, ..: the last row in which that column of the left half is below 2^64", rows),
+    + listed("lastColumns", f"of the rows {FULL}, {FULL + 1}, ..: the last column of the left half whose coefficient is below 2^64", columns),
 )
 
 arms = "".join(f"        {n} => Parts({odds[n]}, {inverses[n]}, {twos[n]}),\n" for n in range(LAST + 1))
-IN_A_WORD = 9  # of seven bits each
-words = [sum(n << (7 * i) for i, n in enumerate(rows[at : at + IN_A_WORD])) for at in (0, IN_A_WORD)]
-assert max(rows) < 2**7 and len(rows) <= 2 * IN_A_WORD
+rows = "".join(f"        {i} => {c},\n" for i, c in enumerate(columns))
 write(
     "src/factorials.rt",
-    f"""// The factorials of 0 to {LAST} by their odd parts and their factors 2, and the last rows that fit; written by tools/factorials.py.
+    f"""// The factorials of 0 to {LAST} by their odd parts and their factors 2, and the last columns that fit; written by tools/factorials.py.
 ghost use mathlib.Core.Path.{{_≡_}};
-ghost use Prim.Native.Nat.{{_-_, _*_, _/_, _%_, _<_, _^_}};
+ghost use Prim.Native.Nat.{{_-_, _≤_}};
 ghost use lib.ListN.{{getD}};
-ghost use Rattle·binomials·specs.specs.inner.Factorials.{{partsOf, lastWhole, lastRows}};
+ghost use Rattle·binomials·specs.specs.inner.Factorials.{{partsOf, lastColumns}};
 
 // Of a factorial: its odd part modulo 2^64, the inverse of that modulo 2^64, and how often 2 divides it.
 pub struct Parts(pub u64, pub u64, pub u64);
@@ -75,31 +70,15 @@ pub fn parts_of(n: u64) -> Parts
     }}
 }}
 
-// Up to this column of the left half every coefficient within the limit is below 2^64.
-pub const LAST_WHOLE: u64 = {WHOLE};
-
-// The number at a place of a word that has seven bits for each.
-fn number_in(word: u64, at: u64) -> u64
-    requires {{ ⌜ at < {IN_A_WORD} ⌝ }}
-    ensures {{ λ r. ⌜ r ≡ word / 2 ^ (7 * at) % 128 ⌝ }}
+// The last column of row n, from {FULL} on, whose coefficient is below 2^64.
+pub fn last_column(n: u64) -> u64
+    requires {{ ⌜ {FULL} ≤ n ⌝ }}
+    ensures {{ λ r. ⌜ r ≡ getD lastColumns (n - {FULL}) 0 ⌝ }}
 {{
-    (word >> (7 * at)) % 128
-}}
-
-// The last row in which a later column of the left half is below 2^64, and 0 where none is. Nine rows share a word: so small, the compiler takes it into
-// those that ask.
-pub fn last_row(column: u64) -> u64
-    requires {{ ⌜ lastWhole < column ⌝ }}
-    ensures {{ λ r. ⌜ r ≡ getD lastRows (column - lastWhole - 1) 0 ⌝ }}
-{{
-    let at = column - LAST_WHOLE - 1;
-    if at < {IN_A_WORD} {{
-        return number_in({words[0]}, at);
+    let row = n - {FULL};
+    match row {{
+{rows}        _ => 0,
     }}
-    if at < {2 * IN_A_WORD} {{
-        return number_in({words[1]}, at - {IN_A_WORD});
-    }}
-    0
 }}
 """,
 )
@@ -131,55 +110,13 @@ proof(
     LAST + 1,
     f"(λ c. let n = c .before .args .n in let h = c .match .rest in none (past {LAST + 1} odds refl n h) (past {LAST + 1} inverses refl n h) (past {LAST + 1} twos refl n h))",
 )
-
-
-def places(word):
-    """A clause for each place of the word: the number there is the list's."""
-    for i in range(IN_A_WORD):
-        yield f"in-{word} {'(suc ' * i}zero{')' * i} h = refl"
-    yield f"in-{word} {'(suc ' * IN_A_WORD}i{')' * IN_A_WORD} h = absurd (omega arith)"
-
-
-def clauses(word, first):
-    number = f"{words[first // IN_A_WORD]} / 2 ^ (7 * i) % 128"
-    place = f"({first} + i)" if first else "i"
-    return f"in-{word} : (i : ℕ) → i < {IN_A_WORD} → {number} ≡ getD lastRows {place} 0\n" + "\n".join(places(word))
-
-
-write(
-    "proofs/factorials/last_row/Proof.antt",
-    f"""-- `binomials::factorials::last_row` meets its contract: each place of a word has the number of the list; written by tools/factorials.py.
--- Assumes nothing.
-use mathlib.Core.Path.{{_≡_, refl, sym, _∙_, ap}}
-use Prim.Native.Nat.{{ℕ, zero, suc, _+_, _*_, _-_, _/_, _%_, _<_, _^_}}
-use native.Mathlib.Omega.{{arith}}
-use lib.ListN.{{getD}}
-use borrow.Author.Needs.{{needs}}
-use Rattle·binomials·specs.specs.inner.Factorials.{{lastWhole, lastRows}}
-use Rattle·numbers.proofs.Past.{{nothing-there}}
-use Rattle·binomials·proofs.proofs.factorials.last_row.Statement.{{statement}}
-use Rattle·binomials·proofs.proofs.factorials.last_row.Tie as tie
-
-{clauses("first", 0)}
-
-{clauses("second", IN_A_WORD)}
-
-returns-2 : tie.Need-returns-2
-returns-2 c =
-    let at = c .before .before .before .args .column - lastWhole - 1 in
-    let e : {IN_A_WORD} + (at - {IN_A_WORD}) ≡ at = omega arith in
-    c .number-in2 .ensures ∙ in-second (at - {IN_A_WORD}) (omega arith) ∙ ap (λ (i : ℕ). getD lastRows i 0) e
-
-pub last-row-spec : {{M : Type 1}} → statement M
-last-row-spec =
-    tie.close
-    (tie.spec
-    (λ c. search needs)
-    (λ c. search needs)
-    (λ c κs. search needs)
-    (λ c. c .number-in .ensures ∙ in-first (c .before .before .args .column - lastWhole - 1) (omega arith))
-    (λ c κs. search needs)
-    returns-2
-    (λ c. sym (nothing-there lastRows (c .before .before .args .column - lastWhole - 1) (omega arith))))
-""",
+proof(
+    "last_column",
+    ARMS,
+    "use mathlib.Core.Path.{_≡_, refl, sym, ap}\nuse Prim.Native.Nat.{ℕ, _-_}\nuse lib.ListN.{getD}\nuse borrow.Author.Needs.{needs}\n"
+    "use Rattle·binomials·specs.specs.inner.Factorials.{lastColumns}\n",
+    "at : {n i : ℕ} → n ≡ i → getD lastColumns i 0 ≡ getD lastColumns n 0\nat e = ap (λ (i : ℕ). getD lastColumns i 0) (sym e)",
+    ["(λ c. search needs)"],
+    len(columns),
+    f"(λ c. past {len(columns)} lastColumns refl (c .before .args .n - {FULL}) (c .match .rest))",
 )

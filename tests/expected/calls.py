@@ -4,28 +4,8 @@ crates/test_calls/src/main.rt has the form of a case and the letters. The librar
 
     python3 tests/expected/calls.py"""
 from itertools import product
-from math import comb
 
-from families import (
-    BRANCHES,
-    FLOORS,
-    KINDS,
-    PLACES,
-    WIDE_PLACES,
-    Filtered,
-    Ranks,
-    compare,
-    count,
-    derangements,
-    family,
-    full_name,
-    is_object,
-    length,
-    name,
-    refusal,
-    spelled,
-    stirling,
-)
+from families import BRANCHES, FLOORS, KINDS, PLACES, Filtered, Ranks, count, derangements, family, full_name, length, name, refusal, stirling
 from samples import (
     BELOW_FLOOR,
     BEYOND_DERANGEMENTS,
@@ -39,13 +19,7 @@ from samples import (
     LARGEST,
     NO_DERANGEMENTS,
     NO_PARTITIONS,
-    NO_WIDE_OBJECTS,
     OTHER_LENGTHS,
-    TOO_WIDE,
-    WIDE_BEYOND,
-    WIDE_FAMILIES,
-    WIDE_LENGTHS,
-    WIDE_MISSED,
     WRONG_EDITIONS,
     WRONG_FLOORS,
     some_bytes,
@@ -150,13 +124,13 @@ def refusals():
         (1, "", family(0, 4, 2), up(2), 0),
         (1, "", family(KINDS + 1, 4, 2), up(2), 0),
         (1, "", family(LARGEST, 4, 2), up(2), 0),
-        (2, "", family(1, TOO_WIDE, 2), up(2), 0),
-        (2, "", family(1, 4, TOO_WIDE), up(2), 0),
+        (2, "", family(1, PLACES + 1, 2), up(2), 0),
+        (2, "", family(1, 4, PLACES + 1), up(2), 0),
         (2, "", family(3, 4, 1), up(4), 0),
         (2, "", family(6, BRANCHES + 1), up(PLACES), 0),
         (2, "", family(7, 4, 2), up(2), 0),
         (3, " with n 3", family(2, 3, 0, (1, 1)), up(2), 0),
-        (3, "", family(2, 2, 0, (WIDE_PLACES, 1)), up(2), 0),
+        (3, "", family(2, 2, 0, (PLACES, 1)), up(2), 0),
         (3, " with a count", family(1, 4, 2, (0,)), up(2), 0),
         (4, "", family(1, 2, 4), up(4), 0),
         (4, "", family(4, 3, 0), up(3), 0),
@@ -234,18 +208,14 @@ def seams(f):
     return [start + b * shared for b in (1, f.k - 1, f.k)] + [start]
 
 
-def by_ranks(f, others):
-    """Steps from both ends; then steps round objects by their ranks: the first, some in the middle, these others, and the last."""
-    last = count(f) - 1
-    yield name(f), "c><", 0, f, [0] * length(f), Ranks
-    for r in sorted({0, 1, *others, last // 2, last // 3, last, last + 1}):
-        # where r is no rank, UNRANK alone
-        yield f"{name(f)} from {r}", "Urnppn" if r <= last else "u", r, f, [0] * length(f), Ranks
-
-
 def large_editions():
+    """Steps from both ends; then steps round objects by their ranks: the first, some in the middle, those where the last key rises, and the last."""
     for f in LARGE_EDITIONS:
-        yield from by_ranks(f, seams(f))
+        last = count(f) - 1
+        yield name(f), "c><", 0, f, [0] * length(f), Ranks
+        for r in sorted({0, 1, *seams(f), last // 2, last // 3, last, last + 1}):
+            # where r is no rank, UNRANK alone
+            yield f"{name(f)} from {r}", "Urnppn" if r <= last else "u", r, f, [0] * length(f), Ranks
     yield from ((name(f), "c><", 0, f, [0] * length(f), Ranks) for f in BEYOND_EDITIONS)
 
 
@@ -273,9 +243,13 @@ def turns(n):
 
 
 def large_derangements():
-    """Where ranks don't fit, steps alone, and far from both ends and back again."""
+    """Steps from both ends; then steps round objects by their ranks: the first, those where f(n) rises, some between, and the last. Where ranks don't
+    fit, steps alone, and far from both ends and back again."""
     for f in LARGE_DERANGEMENTS:
-        yield from by_ranks(f, turns(f.n))
+        last = count(f) - 1
+        yield name(f), "c><", 0, f, [0] * length(f), Ranks
+        for r in sorted({0, 1, *turns(f.n), last // 2, last // 3, last, last + 1}):
+            yield f"{name(f)} from {r}", "Urnppn" if r <= last else "u", r, f, [0] * length(f), Ranks
     for f in BEYOND_DERANGEMENTS:
         yield name(f), "c><ru", 0, f, [0] * length(f), Ranks
     f = family(7, PLACES)
@@ -284,47 +258,16 @@ def large_derangements():
     yield f"{name(f)} back", "<" + "p" * 200 + "n" * 501, 0, f, [0] * length(f), Ranks
 
 
-def refused(missed, lengths, no_objects, ranks):
-    """Families that miss a question, with its number; and of the others bytes of another length, bytes that are no object, and ranks beyond the last."""
-    for q, f in missed:
-        yield f"question {q}, {full_name(f)}", "crnpulf", 0, f, some_bytes(f), Ranks
-    for f, x in lengths:
-        yield f"question 6, {name(f)} on {len(x)} bytes", "crnpulf", 0, f, x, Ranks
-    for f, x in no_objects:
-        yield f"question 7, {name(f)} at{spelled(x)}", "rnp", 0, f, x, Ranks
-    for f, r in ranks:
-        yield f"question 8, {name(f)} with rank {r}", "u", r, f, [0] * length(f), Ranks
-
-
 def refused_derangements():
-    ranks = (family(7, 4), 8), (family(7, 4), 9), (family(7, 4), LARGEST), (family(7, 0), 1)
-    return refused(DERANGEMENTS_MISSED, OTHER_LENGTHS, NO_DERANGEMENTS, ranks)
-
-
-def starting_over(f):
-    """The rank at which the place that decides first rises for the last time, and the one before: the largest site becomes n, or the first letter the
-    last that has a count."""
-    if f.kind == 1:
-        rises = comb(f.n - 1, f.k)
-    else:
-        last = next(c for c in reversed(f.counts) if c)
-        rises = count(f) - count(f) * last // length(f)
-    return {r for r in (rises - 1, rises) if 0 <= r < count(f)}
-
-
-def wide_families():
-    """Few objects are walked to the end, too. Where ranks don't fit, steps from both ends and round an object in the middle."""
-    for f in WIDE_FAMILIES:
-        if count(f) <= WIDE_PLACES:
-            yield f"{name(f)}, all", "wbt", 0, f, [0] * length(f), Ranks
-        yield from by_ranks(f, starting_over(f))
-    for f in WIDE_BEYOND:
-        yield name(f), "c><ru", 0, f, [0] * length(f), Ranks
-        yield f"{name(f)} from the middle", "NPPnru", 0, f, Ranks(f).object(count(f) // 2), Ranks
-
-
-def refused_wide():
-    return refused(WIDE_MISSED, WIDE_LENGTHS, NO_WIDE_OBJECTS, [(f, LARGEST) for f in WIDE_FAMILIES])
+    """As `refused_floors`; and lengths and ranks."""
+    for q, f in DERANGEMENTS_MISSED:
+        yield f"question {q}, {full_name(f)}", "crnpulf", 0, f, some_bytes(f), Ranks
+    for f, x in OTHER_LENGTHS:
+        yield f"question 6, {name(f)} on {len(x)} bytes", "crnpulf", 0, f, x, Ranks
+    for f, x in NO_DERANGEMENTS:
+        yield f"question 7, {name(f)} at{words(x)}", "rnp", 0, f, x, Ranks
+    for f, r in ((family(7, 4), 8), (family(7, 4), 9), (family(7, 4), LARGEST), (family(7, 0), 1)):
+        yield f"question 8, {name(f)} with rank {r}", "u", r, f, [0] * length(f), Ranks
 
 
 # Typed from the sources, the answers too: source and number, letter, family, what is lent or the rank, the answer.
@@ -390,16 +333,12 @@ def published():
 
 
 def check_ranks():
-    """In both editions, set partitions by rank are those that are sorted; and so are derangements. Of wide families, which have too many strings to try,
-    those by rank are objects, each before the next; so they are all, where they are as many as counted."""
+    """In both editions, set partitions by rank are those that are sorted; and so are derangements."""
     for edition, n, k in product((1, 2), range(8), range(1, 9)):
         f = family(4, n, k, edition=edition)
         assert [Ranks(f).object(r) for r in range(count(f))] == Filtered(f).objects
     for f in [family(7, n) for n in range(8)]:
         assert [Ranks(f).object(r) for r in range(count(f))] == Filtered(f).objects
-    for f in WIDE_FAMILIES:
-        some = [Ranks(f).object(r) for r in range(min(count(f), 300))]
-        assert all(is_object(f, x) for x in some) and all(compare(f, x, y) < 0 for x, y in zip(some, some[1:]))
 
 
 def main():
@@ -408,7 +347,6 @@ def main():
     made["floors"] = [*small_floors(), *large_floors(), *refused_floors()]
     made["editions"] = [*small_editions(), *large_editions(), *refused_editions()]
     made["derangements"] = [*small_derangements(), *large_derangements(), *refused_derangements()]
-    made["wide"] = [*wide_families(), *refused_wide()]
     expected = []
     for file in open("crates/test_calls/args").read().split():
         if file == "published":

@@ -7,7 +7,7 @@ on the listings of families.py. Of several wrong places, of which any will do, t
 from functools import cache
 from itertools import combinations, product, zip_longest
 
-from families import FITS, WIDE_PLACES, Filtered, Ranks, count, family, full_name, length, name, not_allowed
+from families import FITS, Filtered, Ranks, count, family, full_name, length, name, not_allowed
 from samples import (
     BEYOND_DERANGEMENTS,
     BEYOND_EDITIONS,
@@ -22,9 +22,6 @@ from samples import (
     SMALL_EDITIONS,
     SMALL_FAMILIES,
     SMALL_FLOORS,
-    WIDE_BEYOND,
-    WIDE_FAMILIES,
-    WIDE_MISSED,
     WRONG_EDITIONS,
     WRONG_FLOORS,
     missing,
@@ -200,8 +197,8 @@ def exchanged_entries():
 
 # a family each whose only object is the empty string
 EMPTY = (
-    *(family(1, n, 0) for n in (0, 1, 5, 80, 120)),
-    *(family(2, len(counts), 0, counts) for counts in ((), (0,), (0,) * 80, (0,) * 120)),
+    *(family(1, n, 0) for n in (0, 1, 5, 80)),
+    *(family(2, len(counts), 0, counts) for counts in ((), (0,), (0,) * 80)),
     *(family(kind, 0) for kind in (3, 6, 7)),
     *(family(4, 0, 0, edition=edition) for edition in (1, 2)),
     *(family(5, 0, 0, floor=floor) for floor in (1, 2, 80)),
@@ -222,8 +219,7 @@ def wrapped(size, bits, many):
 
 
 def byte_lengths():
-    long = family(1, 80, 64), family(3, 80), family(6, 40), family(4, 80, 40), family(1, WIDE_PLACES, WIDE_PLACES)
-    for f in (*SAMPLES, family(3, 1), family(5, 4, 1), family(6, 4), *long):
+    for f in (*SAMPLES, family(3, 1), family(5, 4, 1), family(6, 4), family(1, 80, 64), family(3, 80), family(6, 40), family(4, 80, 40)):
         size = length(f)
         many = min(count(f), max(3, 112 // size))
         own = first(f, many)
@@ -244,11 +240,6 @@ def byte_lengths():
             yield Case(f"{name(f)}, as many bytes if bits are lost", f, data, lost)
 
 
-def part(f, many):
-    """How a label says the list of so many entries."""
-    return f"{name(f)}, whole" if many == count(f) else f"{name(f)}, the first {many}"
-
-
 def damaged(f, own):
     """The entries as they are, fewer and more; the first, a middle and the last changed, dropped, doubled, and exchanged with the next."""
     size, many = length(f), len(own)
@@ -258,7 +249,8 @@ def damaged(f, own):
     for i in entries:
         lists += [own[:i] + own[i + 1 :], own[: i + 1] + own[i:], own[:i] + [stranger(f)] + own[i + 1 :]]
     lists += exchanged(own, [(i, i + 1) for i in sorted({0, many // 2, many - 2}) if 0 <= i < many - 1])
-    return Case(part(f, many), f, joined(own), [*((len(x), joined(x)) for x in lists), *changed(own, places)])
+    label = "whole" if many == count(f) else f"the first {many}"
+    return Case(f"{name(f)}, {label}", f, joined(own), [*((len(x), joined(x)) for x in lists), *changed(own, places)])
 
 
 def large_families():
@@ -327,23 +319,6 @@ def derangements():
     yield from (damaged(f, first(f, 20)) for f in (*LARGE_DERANGEMENTS, *BEYOND_DERANGEMENTS))
 
 
-def little_damaged(f, many):
-    """The first entries as they are, none, one less, one more than all; the first two exchanged; the first, a middle and the last byte changed."""
-    own = first(f, many)
-    lists = [own, [], own[:-1], own[1:], *([own + own[:1]] if many == count(f) else []), *exchanged(own, [(0, 1)] if many > 1 else [])]
-    data = joined(own)
-    raised = [data[:i] + (data[i] + 1,) + data[i + 1 :] for i in sorted({0, len(data) // 2, len(data) - 1})]
-    return Case(part(f, many), f, data, [*((len(x), joined(x)) for x in lists), *((many, x) for x in raised)])
-
-
-def wide():
-    """Kinds 1 and 2 beyond 80 places: listings of few objects whole, and of others the first objects, the more the shorter they are."""
-    for f in (*WIDE_FAMILIES, *WIDE_BEYOND):
-        if length(f):
-            most = 200 if length(f) <= 3 else WIDE_PLACES if count(f) <= WIDE_PLACES else max(2, 120 // length(f))
-            yield little_damaged(f, min(most, count(f)))
-
-
 def refused(label, f, x):
     """One entry x, a byte more, a byte less; no entry, no entry of a byte, and more than there are: behind other questions 12 is missed, too."""
     x = tuple(x)
@@ -352,7 +327,7 @@ def refused(label, f, x):
 
 
 def refusals():
-    for q, f in (*missing(), *FLOORS_MISSED, *EDITIONS_MISSED, *DERANGEMENTS_MISSED, *WIDE_MISSED):
+    for q, f in (*missing(), *FLOORS_MISSED, *EDITIONS_MISSED, *DERANGEMENTS_MISSED):
         yield refused("question 5 isn't put" if q == 5 else f"question {q}", f, some_bytes(f))
     for number, wrong in ((10, WRONG_FLOORS), (11, WRONG_EDITIONS)):
         yield from (refused(f"question {number}", f, x) for f, x in wrong)
@@ -372,7 +347,6 @@ def main():
         "editions": editions,
         "derangements": derangements,
         "refusals": refusals,
-        "wide": wide,
     }
     write_program("test_checks", made)
 

@@ -5,7 +5,7 @@
 from math import comb, factorial
 
 import families
-from families import BRANCHES, FITS, FLOORS, PLACES, WIDE_PLACES
+from families import BRANCHES, FITS, FLOORS, PLACES
 from texts import words, write
 
 
@@ -20,17 +20,15 @@ COUNTS = {
 }
 # how many of a line's numbers each takes; a multinomial takes all
 TAKES = {"binomial": 2, "stirling": 2, "partitions": 3, "factorial": 1, "catalan": 1, "derangement": 1}
-# "every Pascal entry up to row 120", "n branches, 0 to 40"; the others have 80 places
-MOST = {"binomial": WIDE_PLACES, "catalan": BRANCHES}
 
 
 def outside(what, numbers):
     if what == "multinomial":
-        # "letter counts summing to at most 120"
-        return sum(numbers) > WIDE_PLACES
+        return sum(numbers) > PLACES
     if what == "partitions":
         return max(numbers[:2]) > PLACES or not 1 <= numbers[2] <= FLOORS
-    return max(numbers) > MOST.get(what, PLACES)
+    # "n branches, 0 to 40"
+    return max(numbers) > (BRANCHES if what == "catalan" else PLACES)
 
 
 def answer(what, *numbers):
@@ -59,33 +57,19 @@ def check_sums():
             assert sum(families.partitions(n, k, floor) for k in range(n + 1)) == total
 
 
-def asked():
-    """Of the questions of the input."""
+def main():
+    check_sums()
+    lines = []
     for line in open("crates/test_counts/stdin"):
         label, numbers = line.rstrip("\n").split(":")
-        yield f"{label}: {answer(label.split()[0], *map(int, numbers.split()))}"
-
-
-def rows():
-    """Of n up to 81, with k up to one behind the row."""
+        lines.append(f"{label}: {answer(label.split()[0], *map(int, numbers.split()))}")
     for n in range(PLACES + 2):
         for k in range(n + 2):
             # the floor in the label only where it isn't 1
             for what, *floor in (("binomial",), ("stirling",), ("partitions",), ("partitions", 2)):
-                yield f"{what}{words((n, k, *floor))}: {answer(what, n, k, *(floor or [1]))}"
-        yield from (f"{what} {n}: {answer(what, n)}" for what in ("factorial", "catalan", "derangement"))
-
-
-def binomials():
-    """Of every n and k up to 121, a line a row."""
-    for n in range(WIDE_PLACES + 2):
-        entries = (answer("binomial", n, k) for k in range(WIDE_PLACES + 2))
-        yield f"binomials {n}:{words(entries)}"
-
-
-def main():
-    check_sums()
-    write("crates/test_counts/stdout", [*asked(), *rows(), *binomials()])
+                lines.append(f"{what}{words((n, k, *floor))}: {answer(what, n, k, *(floor or [1]))}")
+        lines += [f"{what} {n}: {answer(what, n)}" for what in ("factorial", "catalan", "derangement")]
+    write("crates/test_counts/stdout", lines)
 
 
 main()

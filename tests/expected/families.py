@@ -1,15 +1,13 @@
-"""The six families of paper 01, and of paper 02 the floor, the editions, kind 7 and the 120 places of kinds 1 and 2, written from their words and not
-from the library: the table's bounds and tests, "Which of two objects comes first" as comparisons, and the questions in their order. Two listings:
-`Filtered`, all strings that pass the table's test, sorted by the comparison, for small families; and `Ranks`, objects by rank, counted place by
-place as 000 and 004 do, for large ones, where the order rests on the same recursion as the library's listings."""
+"""The six families of paper 01, and of paper 02 the floor, the editions and kind 7, written from their words and not from the library: the table's
+bounds and tests, "Which of two objects comes first" as comparisons, and the questions in their order. Two listings: `Filtered`, all strings
+that pass the table's test, sorted by the comparison, for small families; and `Ranks`, objects by rank, counted place by place as 000 and 004
+do, for large ones, where the order rests on the same recursion as the library's listings."""
 from functools import cache, cmp_to_key
-from itertools import combinations, combinations_with_replacement, groupby, permutations, product
+from itertools import combinations, combinations_with_replacement, permutations, product
 from math import comb, factorial
 from typing import NamedTuple
 
-from texts import words
-
-PLACES, WIDE_PLACES, BRANCHES, FLOORS, EDITIONS, KINDS = 80, 120, 40, 80, 2, 7
+PLACES, BRANCHES, FLOORS, EDITIONS, KINDS = 80, 40, 80, 2, 7
 FITS = 2**64
 NAMES = {1: "subsets", 2: "anagrams", 3: "permutations", 4: "set partitions", 5: "integer partitions", 6: "Dyck words", 7: "derangements"}
 
@@ -33,16 +31,10 @@ def family(kind, n, k=0, counts=(), **more):
     return Family(kind, n, k, tuple(counts), **more)
 
 
-def letters(counts):
-    """How a label says the counts: of more than 80 letters a count that stands several times in a row is said once, and how often."""
-    runs = [(c, len(list(run))) for c, run in groupby(counts)] if len(counts) > PLACES else [(c, 1) for c in counts]
-    return " ".join(str(c) if many == 1 else f"{c} ({many} times)" for c, many in runs) or "no letters"
-
-
 def name(f):
     """How a label calls the family: with its floor and its edition only where they aren't 1."""
     if f.kind == 2:
-        called = f"{NAMES[2]} of {letters(f.counts)}"
+        called = f"{NAMES[2]} of {' '.join(map(str, f.counts)) or 'no letters'}"
     else:
         called = f"{NAMES.get(f.kind, f'kind {f.kind}')} {f.n}" + (f" {f.k}" if f.kind not in (3, 6, 7) or f.k else "")
     called += f" with floor {f.floor}" if f.floor != 1 else ""
@@ -53,11 +45,6 @@ def full_name(f):
     """The same with what it leaves out: counts beside a kind that has none, n beside counts."""
     lent = f" with n {f.n}" if f.kind == 2 else f" with the counts {' '.join(map(str, f.counts))}" if f.counts else ""
     return name(f) + lent
-
-
-def spelled(x):
-    """How a label says bytes: of more than 80 the first and the last."""
-    return f" {x[0]} .. {x[-1]}" if len(x) > PLACES else words(x)
 
 
 def length(f):
@@ -217,11 +204,6 @@ def strings(f):
     return product(range({6: 1}.get(f.kind, f.n) + 1), repeat=length(f))
 
 
-def few_strings(f):
-    """Whether all strings of the family can be tried; a wide one has too many even where its objects are short."""
-    return length(f) <= 8 and f.n <= PLACES
-
-
 class Filtered:
     """The listing by trying all strings: for small families."""
 
@@ -353,15 +335,8 @@ def derangement(n, r):
     return (*x, c)
 
 
-def most_places(kind):
-    """The most places of an object, and the largest n and k but for kind 6: "Kind 1 takes n and k up to 120, kind 2 takes n up to 120 and letter
-    counts summing to at most 120; the other kinds keep 80 and 40"."""
-    return WIDE_PLACES if kind in (1, 2) else PLACES
-
-
 def within(f):
-    most = most_places(f.kind)
-    return 0 <= f.n <= (BRANCHES if f.kind == 6 else most) and (f.k == 0 if f.kind in (2, 3, 6, 7) else 0 <= f.k <= most)
+    return 0 <= f.n <= (BRANCHES if f.kind == 6 else PLACES) and (f.k == 0 if f.kind in (2, 3, 6, 7) else 0 <= f.k <= PLACES)
 
 
 def not_allowed(f):
@@ -374,7 +349,7 @@ def not_allowed(f):
         return 10
     if not (1 <= f.edition <= EDITIONS if f.kind == 4 else f.edition == 1):
         return 11
-    if (len(f.counts) != f.n or sum(f.counts) > most_places(f.kind)) if f.kind == 2 else f.counts:
+    if (len(f.counts) != f.n or sum(f.counts) > PLACES) if f.kind == 2 else f.counts:
         return 3
     return 0
 

@@ -6,7 +6,7 @@ on the listings of families.py, with Python's integers.
     python3 tests/expected/jumps.py"""
 from functools import cache
 
-from families import FITS, PLACES, Filtered, Ranks, count, family, few_strings, full_name, length, most_places, name, refusal, spelled
+from families import FITS, PLACES, Filtered, Ranks, count, family, full_name, length, name, refusal
 from samples import (
     BELOW_FLOOR,
     DERANGEMENTS_MISSED,
@@ -17,16 +17,11 @@ from samples import (
     LARGE_FLOORS,
     NO_DERANGEMENTS,
     NO_PARTITIONS,
-    NO_WIDE_OBJECTS,
     SAMPLES,
     SMALL_DERANGEMENTS,
     SMALL_EDITIONS,
     SMALL_FAMILIES,
     SMALL_FLOORS,
-    WIDE_BEYOND,
-    WIDE_FAMILIES,
-    WIDE_LENGTHS,
-    WIDE_MISSED,
     WRONG_EDITIONS,
     WRONG_FLOORS,
     missing,
@@ -36,12 +31,12 @@ from texts import words, write_program
 
 SMALLEST, LARGEST = -(2**63), 2**63 - 1
 # bytes and counts that the program has room for
-MOST = 130
+MOST = 100
 
 
 @cache
 def listing(f):
-    return Filtered(f) if few_strings(f) and count(f) <= 24 else Ranks(f)
+    return Filtered(f) if length(f) <= 8 and count(f) <= 24 else Ranks(f)
 
 
 def jump(f, x, d):
@@ -169,15 +164,11 @@ def large_families():
     yield from_rank(f, last, LARGEST)
 
 
-def refused_by(label, q, f, x, *distances):
-    assert refusal("RANK", f, tuple(x)) == q
-    return Case(f"question {q}, {label}", f, x, *distances)
-
-
 def refused(label, q, f, x):
     """By no distance, one on and one back, and by both ends of the signed numbers."""
+    assert refusal("RANK", f, tuple(x)) == q
     for distances in ((SMALLEST,), (-1, 1), (LARGEST,)):
-        yield refused_by(label, q, f, x, *distances)
+        yield Case(f"question {q}, {label}", f, x, *distances)
 
 
 def refusals():
@@ -190,7 +181,7 @@ def refusals():
             yield from refused(f"{full_name(f)}, no object", q, f, (0,) * len(x))
     for f in SAMPLES:
         x = listing(f).object(1)
-        for y in (x[:-1], x + x[-1:], (), (0,) * (len(x) + 1), (1,) * (most_places(f.kind) + 1)):
+        for y in (x[:-1], x + x[-1:], (), (0,) * (len(x) + 1), (1,) * (PLACES + 1)):
             yield from refused(f"{name(f)} on {len(y)} bytes", 6, f, y)
         for y in ((0,) * len(x), (x[0] + 2,) + x[1:], x[:-1] + (255,)):
             yield from refused(f"{name(f)}, no object", 7, f, y)
@@ -233,29 +224,6 @@ def derangements():
     return of_a_kind(small, [family(7, 5), *LARGE_DERANGEMENTS], 6, DERANGEMENTS_MISSED, NO_DERANGEMENTS)
 
 
-def across(f):
-    """Of long objects fewer jumps: round the first, a middle one and the last, and onto both ends and one beyond."""
-    last = count(f) - 1
-    middle = last // 2
-    wanted = [(0, -1, 1), (0, last), (0, last + 1), (last, -1, 1), (last, -last), (last, -last - 1)]
-    wanted += [(middle, -1, 1), (middle, -middle), (middle, last - middle)]
-    for r, *distances in dict.fromkeys(wanted):
-        yield from_rank(f, r, *distances)
-
-
-def wide():
-    """Kinds 1 and 2 beyond 80 places. What is refused is tried by one distance, and on two bytes where a question before 5 refuses."""
-    yield from far_and_half_way([f for f in WIDE_FAMILIES if length(f) <= PLACES], in_no_order(7))
-    for f in WIDE_FAMILIES:
-        if length(f) > PLACES:
-            yield from across(f)
-    cases = [(q, full_name(f), f, some_bytes(f)[:2]) for q, f in WIDE_MISSED]
-    cases += [(5, name(f), f, Ranks(f).object(1)) for f in WIDE_BEYOND]
-    cases += [(6 if count(f) < FITS else 5, f"{name(f)} on {len(x)} bytes", f, x) for f, x in WIDE_LENGTHS]
-    cases += [(7 if count(f) < FITS else 5, f"{name(f)} at{spelled(x)}", f, x) for f, x in NO_WIDE_OBJECTS]
-    yield from (refused_by(label, q, f, x, 1) for q, label, f, x in cases)
-
-
 def main():
     made = {
         "small_families": small_families,
@@ -265,7 +233,6 @@ def main():
         "floors": floors,
         "editions": editions,
         "derangements": derangements,
-        "wide": wide,
     }
     write_program("test_jumps", made)
 

@@ -4,7 +4,7 @@ crates/test_replay/src/main.rt has the form of a case. The library isn't run: an
 marker" of paper 01, on the listings of families.py. That a list that doesn't fit its buffers changes nothing is docs/DECISIONS.md's.
 
     python3 tests/expected/replays.py"""
-from families import BRANCHES, KINDS, PLACES, WIDE_PLACES, Filtered, Ranks, family, full_name, is_object, length, name, not_allowed, refusal, spelled
+from families import BRANCHES, KINDS, PLACES, Filtered, Ranks, family, full_name, is_object, length, name, not_allowed, refusal
 from samples import (
     BELOW_FLOOR,
     BEYOND_DERANGEMENTS,
@@ -18,17 +18,11 @@ from samples import (
     LARGEST,
     NO_DERANGEMENTS,
     NO_PARTITIONS,
-    NO_WIDE_OBJECTS,
     OTHER_LENGTHS,
     SAMPLES,
     SMALL_DERANGEMENTS,
     SMALL_EDITIONS,
     SMALL_FLOORS,
-    TOO_WIDE,
-    WIDE_BEYOND,
-    WIDE_FAMILIES,
-    WIDE_LENGTHS,
-    WIDE_MISSED,
     WRONG_EDITIONS,
     WRONG_FLOORS,
     some_bytes,
@@ -152,13 +146,13 @@ def refusals():
         (1, "", family(0, 4, 2), up(2)),
         (1, "", family(KINDS + 1, 4, 2), up(2)),
         (1, "", family(LARGEST, 4, 2), up(2)),
-        (2, "", family(1, TOO_WIDE, 2), up(2)),
-        (2, "", family(1, 4, TOO_WIDE), up(2)),
+        (2, "", family(1, PLACES + 1, 2), up(2)),
+        (2, "", family(1, 4, PLACES + 1), up(2)),
         (2, "", family(3, 4, 1), up(4)),
         (2, "", family(6, BRANCHES + 1), up(PLACES)),
         (2, "", family(7, 4, 2), up(2)),
         (3, " with n 3", family(2, 3, 0, (1, 1)), up(2)),
-        (3, "", family(2, 2, 0, (WIDE_PLACES, 1)), up(2)),
+        (3, "", family(2, 2, 0, (PLACES, 1)), up(2)),
         (3, " with a count", family(1, 4, 2, (0,)), up(2)),
         (4, "", family(1, 2, 4), up(4)),
         (4, "", family(4, 3, 0), up(3)),
@@ -218,20 +212,15 @@ def misfits():
     return [Case(*c) for c in cases]
 
 
-def at_three(fs):
-    """Steps round the first object, one in the middle and the last."""
-    for f in fs:
-        middle = Ranks(f).count() // 2
-        calls = ["FIRST", "PREVIOUS", "NEXT", middle, "NEXT", "PREVIOUS", "PREVIOUS", "LAST", "NEXT", "PREVIOUS", LARGEST]
-        yield fitting(name(f), calls, f, [0] * length(f), Ranks)
-
-
 def of_a_kind(small, large, missed, no_objects, number=None, wrong=()):
     """What is asked of one kind: small families everywhere, large ones, families that miss a question, and bytes that are no object. Of a field of its
     own also values that the question of that number refuses, on every kind."""
     for f in small:
         yield from everywhere(f)
-    yield from at_three(large)
+    for f in large:
+        middle = Ranks(f).count() // 2
+        calls = ["FIRST", "PREVIOUS", "NEXT", middle, "NEXT", "PREVIOUS", "PREVIOUS", "LAST", "NEXT", "PREVIOUS", LARGEST]
+        yield fitting(name(f), calls, f, [0] * length(f), Ranks)
     for f, x in wrong:
         yield fitting(f"question {number}, {name(f)}", EVERY_CALL, f, x, Ranks)
     for q, f in missed:
@@ -254,17 +243,6 @@ def derangements():
         yield fitting(f"question 6, {name(f)} on {len(x)} bytes", EVERY_CALL, f, x)
 
 
-def wide():
-    """Kinds 1 and 2 beyond 80 places; on two bytes where a question before 5 refuses, so that the trails are short."""
-    yield from at_three(WIDE_FAMILIES + WIDE_BEYOND)
-    for q, f in WIDE_MISSED:
-        yield fitting(f"question {q}, {full_name(f)}", EVERY_CALL, f, some_bytes(f)[:2], Ranks)
-    for f, x in WIDE_LENGTHS:
-        yield fitting(f"question 6, {name(f)} on {len(x)} bytes", ["FIRST", "NEXT", 0], f, x, Ranks)
-    for f, x in NO_WIDE_OBJECTS:
-        yield fitting(f"question 7, {name(f)} at{spelled(x)}", ["NEXT", LARGEST, 0, "PREVIOUS"], f, x, Ranks)
-
-
 def main():
     made = {
         "small_families": small_families,
@@ -274,7 +252,6 @@ def main():
         "floors": floors,
         "editions": editions,
         "derangements": derangements,
-        "wide": wide,
     }
     write_program("test_replay", made)
 

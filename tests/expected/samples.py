@@ -1,9 +1,7 @@
 """Families that several of the scripts beside try."""
-from families import BRANCHES, EDITIONS, FITS, FLOORS, KINDS, PLACES, WIDE_PLACES, Ranks, count, family, length, most_places, refusal
+from families import BRANCHES, EDITIONS, FITS, FLOORS, KINDS, PLACES, Ranks, family, length, refusal
 
 LARGEST = FITS - 1
-# one more than kinds 1 and 2 allow
-TOO_WIDE = WIDE_PLACES + 1
 # one of each kind
 SAMPLES = family(1, 4, 2), family(2, 2, 0, (2, 1)), family(3, 3), family(4, 4, 2), family(5, 7, 3), family(6, 3), family(7, 4)
 
@@ -150,69 +148,15 @@ DERANGEMENTS_MISSED = (
 )
 
 
-def sparse(n, counts):
-    """Counts of n letters, of which only these stand in a word."""
-    return tuple(counts.get(i, 0) for i in range(1, n + 1))
-
-
-def anagrams(*lists):
-    return tuple(family(2, len(counts), 0, counts) for counts in lists)
-
-
-# kinds 1 and 2 up to 120 places, and subsets of rows behind the 67th next to 2^64; with ranks, and without
-WIDE_FAMILIES = (
-    *(family(1, n, k) for n, k in ((81, 3), (120, 3), (120, 15), (120, 105), (120, 119), (120, 120), (120, 0), (68, 30), (70, 27), (119, 15))),
-    *anagrams((15, 105), (105, 15), (118, 1, 1), (120,), (0, 120), sparse(120, {1: 1, 60: 3, 120: 1}), sparse(81, {1: 2, 41: 1, 81: 1})),
-)
-WIDE_BEYOND = (*(family(1, n, k) for n, k in ((120, 16), (120, 60), (68, 31))), *anagrams((60, 60), (1,) * 120, (40, 40, 40)))
-assert all(count(f) < FITS for f in WIDE_FAMILIES) and all(count(f) >= FITS for f in WIDE_BEYOND)
-
-# families whose objects have 120 places, each with its first object
-UP = tuple(range(1, WIDE_PLACES + 1))
-LONGEST = (
-    (family(1, WIDE_PLACES, WIDE_PLACES), UP),
-    (family(2, 1, 0, (WIDE_PLACES,)), (1,) * WIDE_PLACES),
-    (family(2, WIDE_PLACES, 0, (1,) * WIDE_PLACES), UP),
-)
-# the same a byte too short and a byte too long
-WIDE_LENGTHS = [(f, y) for f, x in LONGEST for y in (x[:-1], x + (TOO_WIDE,))]
-# what is no object: 0 and one more than n, sites in another order, one twice; letters of other counts
-NO_WIDE_OBJECTS = (
-    *((family(1, WIDE_PLACES, 3), x) for x in ((0, 1, 2), (119, 120, TOO_WIDE), (1, 120, 119), (1, 120, 120), (1, 2, 255))),
-    *((family(1, WIDE_PLACES, 105), x) for x in ((0, *UP[16:]), (*UP[16:], TOO_WIDE))),
-    *((f, y) for f, x in LONGEST for y in ((0, *x[1:]), (*x[:-1], TOO_WIDE))),
-    *((f, x) for f in anagrams((15, 105)) for x in ((1,) * 14 + (2,) * 106, (2,) * 104 + (3,) + (1,) * 15)),
-)
-
-# families that miss a question at the limits of 120, or at those that stay: with the number of the first
-WIDE_MISSED = (
-    *((2, family(1, n, k)) for n, k in ((TOO_WIDE, 2), (4, TOO_WIDE), (TOO_WIDE, TOO_WIDE), (WIDE_PLACES, TOO_WIDE))),
-    # 2 alone; 2, and 3
-    *((2, f) for f in anagrams(sparse(TOO_WIDE, {1: 1, TOO_WIDE: 1}), (0,) * TOO_WIDE, (1,) * TOO_WIDE)),
-    # the other kinds
-    *((2, family(kind, n)) for kind in (3, 7) for n in (PLACES + 1, WIDE_PLACES)),
-    *((2, family(kind, n, k)) for kind in (4, 5) for n, k in ((PLACES + 1, 2), (WIDE_PLACES, 2), (4, PLACES + 1), (4, WIDE_PLACES))),
-    *((2, family(6, n)) for n in (BRANCHES + 1, WIDE_PLACES // 2, WIDE_PLACES)),
-    *((10, family(5, n, k, floor=floor)) for n, k in ((7, 3), (80, 1)) for floor in (FLOORS + 1, WIDE_PLACES)),
-    # sums of 121 and more; a list of another length; a list beside subsets
-    *((3, f) for f in anagrams((WIDE_PLACES, 1), (60, 61), (TOO_WIDE,), (255,), (2,) + (1,) * (WIDE_PLACES - 1))),
-    (3, family(2, WIDE_PLACES, 0, (1,) * (WIDE_PLACES - 1))),
-    (3, family(2, WIDE_PLACES - 1, 0, (1,) * WIDE_PLACES)),
-    (3, family(1, WIDE_PLACES, 3, (0,))),
-    # more sites chosen than there are
-    *((4, family(1, n, k)) for n, k in ((PLACES, PLACES + 1), (4, WIDE_PLACES), (WIDE_PLACES - 1, WIDE_PLACES), (0, PLACES + 1))),
-)
-
-
 def missing():
     """Families that miss each question 1 to 5, with its number; some miss others behind it."""
     yield from ((1, family(kind, 4, 2)) for kind in (0, KINDS + 1, LARGEST))
     yield 1, family(KINDS + 1, PLACES + 1, 2, (1,))
-    yield from ((2, family(1, n, k)) for n, k in ((TOO_WIDE, 2), (4, TOO_WIDE), (LARGEST, 0)))
+    yield from ((2, family(1, n, k)) for n, k in ((PLACES + 1, 2), (4, PLACES + 1), (LARGEST, 0)))
     yield from ((2, f) for f in (family(3, 4, 1), family(6, BRANCHES + 1), family(7, 4, 2)))
     # 2, and 3; 2, and 3 and 4
-    yield from ((2, f) for f in (family(7, PLACES + 1, 2, (1,)), family(1, 2, TOO_WIDE, (1, 1))))
-    yield from ((3, family(2, n, 0, counts)) for n, counts in ((3, (1, 1)), (1, (1, 1)), (2, (WIDE_PLACES, 1))))
+    yield from ((2, f) for f in (family(7, PLACES + 1, 2, (1,)), family(1, 2, PLACES + 1, (1, 1))))
+    yield from ((3, family(2, n, 0, counts)) for n, counts in ((3, (1, 1)), (1, (1, 1)), (2, (PLACES, 1))))
     yield 3, family(1, 4, 2, (0,))
     # 3, and 4; 3, and 5
     yield from ((3, f) for f in (family(1, 2, 4, (0,)), family(3, 21, 0, (1,))))
@@ -225,4 +169,4 @@ def some_bytes(f):
     """An object where there is one, else 1, 2, .. as many as the table says."""
     if refusal("FIRST", f, ()) in (0, 6):
         return Ranks(f).object(0)
-    return tuple(range(1, 1 + (min(length(f), most_places(f.kind)) if 1 <= f.kind <= KINDS else f.k)))
+    return tuple(range(1, 1 + (min(length(f), PLACES) if 1 <= f.kind <= KINDS else f.k)))

@@ -9,18 +9,15 @@ Where each part comes from:
 - the fields, the second line, the lines printed and the refusals: "The slip" of paper 01;
 - the fourth field of the first line, and the number of the first object: the request that printed numbers start at one, which `slip` quotes;
 - the lines for data/NAME, slips with the fourth field 0: slips_from_0.txt, what test_slips printed for the same slips without it before there was a
-  fourth field. It is used as it is, and what is made here for them must be the same. Taken out of it are the lines of n_81, k_81, counts_81 and
-  letters_81, families that were too large then and are answered now that subsets and anagrams have 120 places;
+  fourth field. It is used as it is, and what is made here for them must be the same;
 - the lines for data/three/NAME (the slips as they were then), data/one/NAME (with the fourth field 1) and data/fourth/NAME (fourth fields of their
-  own): made here;
-- the lines for data/wide/NAME: made here. These are slips of three fields round the limits of 120 and of 80; those four, named after their families;
-  and the same refusals one beyond 120. NAME_from_0 and NAME_from_1 have the fourth field.
-That data/NAME and data/one/NAME are data/three/NAME with the field put in behind the first 12 bytes, and so in data/wide/, is checked."""
+  own): made here.
+That data/NAME and data/one/NAME are data/three/NAME with the field put in behind the first 12 bytes is checked."""
 import os
 import re
 from itertools import zip_longest
 
-from families import FITS, Filtered, Ranks, count, family, few_strings, refusal
+from families import FITS, Filtered, Ranks, count, family, length, refusal
 from texts import write
 
 EARLIER = os.path.join(os.path.dirname(os.path.abspath(__file__)), "slips_from_0.txt")
@@ -60,7 +57,7 @@ def text(data):
     no = 9 if f is None else refusal("COUNT", f, ())
     if no not in (0, 5):
         return f"REFUSED{no:4}\n"
-    listing = Filtered(f) if few_strings(f) and count(f) <= 100 else Ranks(f)
+    listing = Filtered(f) if length(f) <= 8 and count(f) <= 100 else Ranks(f)
     shown = min(LISTED, count(f))
     lines = [f"{f.kind:4}{f.n:4}{f.k:4}{count(f) if count(f) < FITS else 'MANY':>20}"]
     lines += [f"{r + start:20}" + "".join(f"{b:4}" for b in listing.object(r)) for r in range(shown)]
@@ -95,22 +92,13 @@ def printed(names):
     return lines
 
 
-def same_of_three(name):
-    """The slip's name without the fourth field, and that field; None where there is no such slip, or no field."""
+def check_field(name):
+    """Stops where the slip isn't that of three fields with the field of its folder put in behind the first 12 bytes."""
     folder, base = os.path.split(name)
     if folder in FIELDS:
-        return f"three/{base}", FIELDS[folder]
-    found = re.fullmatch("(wide/.*)_from_([01])", name)
-    return found and (found[1], f"   {found[2]}".encode())
-
-
-def check_field(name):
-    """Stops where the slip isn't that of three fields with its field put in behind the first 12 bytes."""
-    other, field = same_of_three(name) or (None, None)
-    if other:
-        three = slip_of(other)
-        if slip_of(name) != three[:12] + field + three[12:]:
-            raise SystemExit(f"slips.py: {name} isn't {other} with the field{field.decode()} put in")
+        three = slip_of(f"three/{base}")
+        if slip_of(name) != three[:12] + FIELDS[folder] + three[12:]:
+            raise SystemExit(f"slips.py: {name} isn't three/{base} with the field{FIELDS[folder].decode()} put in")
 
 
 def main():

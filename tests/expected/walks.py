@@ -7,24 +7,7 @@ number 0, what stands behind the bytes kept stays, and a run goes as many steps 
     python3 tests/expected/walks.py"""
 from functools import cache
 
-from families import (
-    BRANCHES,
-    FITS,
-    KINDS,
-    PLACES,
-    WIDE_PLACES,
-    Filtered,
-    Ranks,
-    count,
-    family,
-    few_strings,
-    full_name,
-    length,
-    most_places,
-    name,
-    refusal,
-    spelled,
-)
+from families import BRANCHES, FITS, KINDS, PLACES, Filtered, Ranks, count, family, full_name, length, name, refusal
 from samples import (
     BELOW_FLOOR,
     BEYOND_DERANGEMENTS,
@@ -38,16 +21,10 @@ from samples import (
     LARGEST,
     NO_DERANGEMENTS,
     NO_PARTITIONS,
-    NO_WIDE_OBJECTS,
     SAMPLES,
     SMALL_DERANGEMENTS,
     SMALL_EDITIONS,
     SMALL_FLOORS,
-    TOO_WIDE,
-    WIDE_BEYOND,
-    WIDE_FAMILIES,
-    WIDE_LENGTHS,
-    WIDE_MISSED,
     WRONG_EDITIONS,
     WRONG_FLOORS,
     some_bytes,
@@ -56,14 +33,13 @@ from texts import words, write_program
 
 STEPPED, END = 21, 100
 UNWRITTEN = 255
-# bytes, counts and steps that the program has room for
-MOST = 130
+MOST = 100
 ON, BACK = 1, 0
 
 
 @cache
 def listing(f):
-    return Filtered(f) if few_strings(f) and count(f) <= 100 else Ranks(f)
+    return Filtered(f) if length(f) <= 8 and count(f) <= 100 else Ranks(f)
 
 
 def rank(f, x):
@@ -84,7 +60,7 @@ class Walk:
 
     def missed(self, f):
         """The first of the counter's questions 1 to 8 to which the answer is no, or 0: 7 and 8 are of the bytes and the number kept."""
-        beyond = (0,) * min(1, max(0, self.len - WIDE_PLACES))
+        beyond = (0,) * min(1, max(0, self.len - PLACES))
         return refusal("RANK", f, self.bytes() + beyond) or (8 if self.number >= count(f) else 0)
 
     def step(self, way, counts):
@@ -110,7 +86,7 @@ class Walk:
 
 def filled(x):
     """An array that begins with these bytes."""
-    return tuple(x) + (0,) * (WIDE_PLACES - len(x))
+    return tuple(x) + (0,) * (PLACES - len(x))
 
 
 class Case:
@@ -121,7 +97,7 @@ class Case:
         self.label, self.f, self.x, self.made = label, f, tuple(x), made
         self.legs = [(counts, steps, room[0] if room else len(steps)) for counts, steps, *room in legs]
         assert self.legs[0][0] == f.counts and not set(label) & set(":;/")
-        assert all(len(steps) <= MOST and room <= MOST for _, steps, room in self.legs) and len(x) <= (WIDE_PLACES if made else MOST)
+        assert all(len(steps) <= MOST and room <= MOST for _, steps, room in self.legs) and len(x) <= (PLACES if made else MOST)
 
     def line(self):
         legs = ";".join(f"{words(counts)} / {room}{words(steps)}" for counts, steps, room in self.legs)
@@ -148,7 +124,7 @@ class Case:
             run = min(len(steps), room)
             written = answers[:run] + [UNWRITTEN] * (room - run)
             text += f";{said} digest {walk.digest()}, run{words(written)}, digest {walks[run].digest()}"
-        kept = f", bytes{words(walk.bytes())}" if walk.len <= WIDE_PLACES else ""
+        kept = f", bytes{words(walk.bytes())}" if walk.len <= PLACES else ""
         return f"{self.label}:{text}; length {walk.len}, number {walk.number}{kept}"
 
 
@@ -197,16 +173,16 @@ def small_families():
     yield Case(f"{name(f)}, no steps", f, (2, 3), alike(f, [], ([], 3), [ON], []))
 
 
-def marked(x, places=PLACES):
-    """An array that begins with these bytes, with others behind them that aren't 0, up to so many places."""
-    return tuple(x) + tuple(1 + i % 9 for i in range(len(x), places))
+def marked(x):
+    """An array that begins with these bytes, with others behind them that aren't 0."""
+    return tuple(x) + tuple(1 + i % 9 for i in range(len(x), PLACES))
 
 
-def wrong_numbers(f, places=PLACES):
+def wrong_numbers(f):
     """Numbers that aren't the rank: at the first object, at one in the middle and at the last."""
     many, size = count(f), length(f)
     for r in (0, many // 2, many - 1):
-        x = marked(listing(f).object(r), places)
+        x = marked(listing(f).object(r))
         for number in (0, many - 1):
             label = f"{name(f)}, number {number} at {r}"
             yield Case(f"{label}, on", f, x, alike(f, [ON, ON, BACK]), (size, number))
@@ -229,20 +205,13 @@ def numbers():
             yield Case(f"{name(f)}, number {number}", f, marked(()), alike(f, [ON, BACK]), (0, number))
 
 
-def wrong_lengths(f, sizes, places=PLACES):
-    """These lengths, of a walk whose array begins with an object and whose number is its rank."""
-    r = count(f) // 2
-    x = marked(listing(f).object(r), places)
-    for size in dict.fromkeys(sizes):
-        yield Case(f"{name(f)}, length {size}", f, x, alike(f, [ON, BACK]), (size, r))
-
-
 def lengths():
-    """Lengths that aren't the object's; also with a number that 8 would refuse."""
+    """Lengths that aren't the object's, which the array begins with: with its rank, and with a number that 8 would refuse."""
     for f in (*SAMPLES, family(1, 3, 0), family(2, 2, 0, (78, 2)), family(4, 80, 79)):
-        right = length(f)
-        yield from wrong_lengths(f, (0, max(right, 1) - 1, right, right + 1, 79, 80, 81, 200, 2**32 + right, LARGEST))
-        x = marked(listing(f).object(count(f) // 2))
+        r, right = count(f) // 2, length(f)
+        x = marked(listing(f).object(r))
+        for size in dict.fromkeys((0, max(right, 1) - 1, right, right + 1, 79, 80, 81, 200, 2**32 + right, LARGEST)):
+            yield Case(f"{name(f)}, length {size}", f, x, alike(f, [ON, BACK]), (size, r))
         yield Case(f"{name(f)}, length {right + 1}, number {LARGEST}", f, x, alike(f, [ON, BACK]), (right + 1, LARGEST))
 
 
@@ -268,18 +237,18 @@ MISSING = [
     (1, family(LARGEST, 4, 2)),
     # 1, and 2 and 3
     (1, family(KINDS + 1, PLACES + 1, 2, (1,))),
-    (2, family(1, TOO_WIDE, 2)),
-    (2, family(1, 4, TOO_WIDE)),
+    (2, family(1, PLACES + 1, 2)),
+    (2, family(1, 4, PLACES + 1)),
     (2, family(1, LARGEST, 0)),
     (2, family(3, 4, 1)),
     (2, family(6, BRANCHES + 1)),
     (2, family(7, 4, 2)),
     # 2, and 3; 2, and 3 and 4
     (2, family(7, PLACES + 1, 2, (1,))),
-    (2, family(1, 2, TOO_WIDE, (1, 1))),
+    (2, family(1, 2, PLACES + 1, (1, 1))),
     (3, family(2, 3, 0, (1, 1))),
     (3, family(2, 1, 0, (1, 1))),
-    (3, family(2, 2, 0, (WIDE_PLACES, 1))),
+    (3, family(2, 2, 0, (PLACES, 1))),
     (3, family(1, 4, 2, (0,))),
     # 3, and 4; 3, and 5
     (3, family(1, 2, 4, (0,))),
@@ -303,12 +272,12 @@ def refusals():
         assert refusal("RANK", f, x) == q
         label = f"question {q}, {full_name(f)}"
         yield Case(f"{label}, at a start", f, x, alike(f, [ON, BACK]))
-        for size, number in ((len(x), 0), (len(x) + 1, LARGEST), (TOO_WIDE, 0), (LARGEST, LARGEST)):
+        for size, number in ((len(x), 0), (len(x) + 1, LARGEST), (PLACES + 1, 0), (LARGEST, LARGEST)):
             yield Case(f"{label}, length {size}, number {number}", f, x, alike(f, [ON, BACK]), (size, number))
     # 6 and 7 at a start, and from the walk beside it
     for f in SAMPLES:
         x = listing(f).object(0)
-        for y in (x[:-1], x + x[-1:], (1,) * (most_places(f.kind) + 1), (0,) * len(x)):
+        for y in (x[:-1], x + x[-1:], (1,) * (PLACES + 1), (0,) * len(x)):
             what = words(y) if len(y) < 10 else f" {len(y)} bytes"
             yield Case(f"{name(f)}, at a start on{what}", f, y, alike(f, [ON, BACK]))
     # beside a refused start stands a walk that keeps no bytes: here that is an object
@@ -320,7 +289,7 @@ def refusals():
 
 def lists_change():
     f = family(2, 2, 0, (2, 1))
-    others = ((1, 2), (2, 0), (2, 1, 0), (2,), (), (3, 0), (0, 3), (0, 0), (1, 1), (2, 2), (WIDE_PLACES, 1), (255, 255), (0, 2, 1))
+    others = ((1, 2), (2, 0), (2, 1, 0), (2,), (), (3, 0), (0, 3), (0, 0), (1, 1), (2, 2), (80, 1), (255, 255), (0, 2, 1))
     for r in range(3):
         legs = [(f.counts, [])]
         for i, other in enumerate(others):
@@ -392,7 +361,7 @@ def large_families():
 def refused(q, f, x):
     """At a start, and made up there."""
     assert refusal("RANK", f, x) == q
-    label = f"question {q}, {full_name(f)} at{spelled(x)}"
+    label = f"question {q}, {full_name(f)} at{words(x)}"
     yield Case(f"{label}, at a start", f, x, alike(f, [ON, BACK]))
     yield Case(f"{label}, made up", f, x, alike(f, [ON, BACK]), (len(x), 0))
 
@@ -425,29 +394,10 @@ def editions():
 def derangements():
     yield from of_a_kind(SMALL_DERANGEMENTS, family(7, 5), LARGE_DERANGEMENTS + BEYOND_DERANGEMENTS, DERANGEMENTS_MISSED, NO_DERANGEMENTS)
     # far from both ends and back
-    f, far = family(7, 20), 100
-    on, back = [ON] * far, [BACK] * far
+    f = family(7, 20)
+    on, back = [ON] * MOST, [BACK] * MOST
     yield Case(f"{name(f)}, far on and back", f, Ranks(f).object(0), alike(f, on, on, back, back, [BACK]))
     yield Case(f"{name(f)}, far back and on", f, Ranks(f).object(count(f) - 1), alike(f, back, back, on, on, [ON]))
-
-
-def wide():
-    """Kinds 1 and 2 beyond 80 places, and walks of every kind made up to the end of the array; on two bytes where a question before 5 refuses."""
-    for f in WIDE_FAMILIES:
-        yield from round_three(f)
-    for f in WIDE_BEYOND:
-        yield from beyond(f)
-    yield from wrong_numbers(family(1, WIDE_PLACES, 3), WIDE_PLACES)
-    for q, f in WIDE_MISSED:
-        yield from refused(q, f, some_bytes(f)[:2])
-    for f, x in NO_WIDE_OBJECTS:
-        yield from refused(7 if count(f) < FITS else 5, f, x)
-    for f, x in WIDE_LENGTHS:
-        yield Case(f"{name(f)}, at a start on {len(x)} bytes", f, x, alike(f, [ON, BACK]))
-    for f in SAMPLES:
-        yield from wrong_lengths(f, (WIDE_PLACES - 1, WIDE_PLACES, TOO_WIDE), WIDE_PLACES)
-    for f in (family(1, WIDE_PLACES, WIDE_PLACES), family(2, 3, 0, (118, 1, 1))):
-        yield from wrong_lengths(f, (0, PLACES, PLACES + 1, WIDE_PLACES - 1, WIDE_PLACES, TOO_WIDE, 2**32 + WIDE_PLACES, LARGEST))
 
 
 def main():
@@ -460,7 +410,6 @@ def main():
         "floors": floors,
         "editions": editions,
         "derangements": derangements,
-        "wide": wide,
     }
     write_program("test_walks", made)
 

@@ -1,7 +1,7 @@
 // The number of a word and the word of a number, with one division or two for each place: of M words of m letters M * c / m start with a
 // letter that is left c times.
 ghost use Rattle.std.specs.Prelude.{◌≡◌, true, ◌+◌, ◌*◌, ◌/◌, ◌≤◌, ◌<◌, ◌^◌, length, take, get_or};
-ghost use Rattle.basics.specs.Limits.{wide_places};
+ghost use Rattle.basics.specs.Limits.{places};
 ghost use Rattle.basics.specs.Sums.{total};
 ghost use Rattle.numbers.specs.Numbers.{multinomial_of, one_less};
 ghost use Rattle.listings.specs.Places.{At, count_before};
@@ -13,7 +13,7 @@ use counting::{Count, multinomial};
 
 // The number of words, where it fits.
 pub fn all_words(counts: &[u8]) -> u64
-    requires { (total counts.now ≤ wide_places) × (multinomial_of counts.now < 2 ^ 64) }
+    requires { (total counts.now ≤ places) × (multinomial_of counts.now < 2 ^ 64) }
     ensures { result ≡ multinomial_of counts.now }
 {
     let Count::Exactly(v) = multinomial(counts) else {
@@ -24,7 +24,7 @@ pub fn all_words(counts: &[u8]) -> u64
 
 // words * s / m, with nothing on the way above 64 bits.
 fn share(words: u64, s: u64, m: u64) -> u64
-    requires { (s ≤ m) × ((0 < m) × (m ≤ wide_places)) }
+    requires { (s ≤ m) × ((0 < m) × (m ≤ places)) }
     ensures { result ≡ words * s / m }
 {
     words / m * s + words % m * s / m
@@ -32,7 +32,7 @@ fn share(words: u64, s: u64, m: u64) -> u64
 
 // How many letters in front of letter a are left.
 fn left_before(left: &[u8], a: usize) -> u64
-    requires { (a ≤ length left.now) × (total left.now ≤ wide_places) }
+    requires { (a ≤ length left.now) × (total left.now ≤ places) }
     ensures { result ≡ total (take a left.now) }
 {
     sum(&left[..a])
@@ -40,7 +40,7 @@ fn left_before(left: &[u8], a: usize) -> u64
 
 // Of all words, how many start with a letter in front of letter a.
 fn earlier(left: &[u8], words: u64, m: u64, a: usize) -> u64
-    requires { (a ≤ length left.now) × ((total left.now ≡ m) × ((0 < m) × (m ≤ wide_places))) }
+    requires { (a ≤ length left.now) × ((total left.now ≡ m) × ((0 < m) × (m ≤ places))) }
     ensures { result ≡ words * total (take a left.now) / m }
 {
     share(words, left_before(left, a), m)
@@ -48,7 +48,7 @@ fn earlier(left: &[u8], words: u64, m: u64, a: usize) -> u64
 
 // Takes letter a from those left, and says how many words start with it: as many as the letters make that are left then.
 fn spend(left: &mut [u8], words: u64, m: u64, a: usize) -> u64
-    requires words_value { (words ≡ multinomial_of left.old) × ((total left.old ≡ m) × (m ≤ wide_places)) }
+    requires words_value { (words ≡ multinomial_of left.old) × ((total left.old ≡ m) × (m ≤ places)) }
     requires a_in_bounds { (a < length left.old) × (0 < get_or left.old a 0) }
     ensures left_after { left.new ≡ one_less left.old a }
     ensures value { result ≡ multinomial_of left.new }
@@ -60,7 +60,7 @@ fn spend(left: &mut [u8], words: u64, m: u64, a: usize) -> u64
 
 // Place after place: the words that start with an earlier letter, and then those with this one.
 pub fn rank_of(left: &mut [u8], all: u64, object: &[u8]) -> u64
-    requires left_bound { total left.old ≤ wide_places }
+    requires left_bound { total left.old ≤ places }
     requires object_value { is_anagram left.old object.now ≡ true }
     requires all_value { all ≡ multinomial_of left.old }
     ensures { result ≡ count_before anagram_before object.now (anagrams left.old) }
@@ -80,7 +80,7 @@ pub fn rank_of(left: &mut [u8], all: u64, object: &[u8]) -> u64
 
 // The first letter of the word of a rank, from 0: as many words start with an earlier one as fit into the rank.
 fn letter_of(rank: u64, left: &[u8], words: u64, m: u64) -> usize
-    requires left_value { (total left.now ≡ m) × ((0 < m) × (m ≤ wide_places)) }
+    requires left_value { (total left.now ≡ m) × ((0 < m) × (m ≤ places)) }
     requires rank_lt_words { rank < words }
     ensures upper_bound { result < length left.now }
     ensures m_bound { words * total (take result left.now) / m ≤ rank }
@@ -97,8 +97,8 @@ fn letter_of(rank: u64, left: &[u8], words: u64, m: u64) -> usize
 
 // Place after place: the letter whose words the rank falls into, and the rank among these.
 pub fn write_word(rank: u64, left: &mut [u8], all: u64, object: &mut [u8])
-    requires left_bound { (total left.old ≤ wide_places) × (length object.old ≡ total left.old) }
-    requires left_len_bound { length left.old ≤ wide_places }
+    requires left_bound { (total left.old ≤ places) × (length object.old ≡ total left.old) }
+    requires left_len_bound { length left.old ≤ places }
     requires all_value { all ≡ multinomial_of left.old }
     requires rank_lt_all { rank < all }
     ensures { At (anagrams left.old) object.new rank }

@@ -1,7 +1,7 @@
 // Kind 2: anagrams, the words with letter i (from 1) as often as counts[i - 1] says, over lent byte slices. Called by `families`, which
 // shows what each function requires. Nothing here counts them: the ranks are in `anagram_ranks`.
 ghost use Rattle.std.specs.Prelude.{◌≡◌, true, List, ℕ, ◌≤◌, length};
-ghost use Rattle.basics.specs.Limits.{wide_places};
+ghost use Rattle.basics.specs.Limits.{places};
 ghost use Rattle.basics.specs.Sums.{total};
 ghost use Rattle.listings.specs.Calls.{NEXT, PREVIOUS, Said, act};
 ghost use Rattle.listings.specs.Places.{First, Last};
@@ -17,7 +17,7 @@ use listings::{Step, copied, fill_with};
 
 // Does the slice hold a word of these letters?
 pub fn is_object(counts: &[u8], object: &[u8]) -> bool
-    requires { length counts.now ≤ wide_places }
+    requires { length counts.now ≤ places }
     ensures { result ≡ is_anagram counts.now object.now }
 {
     let mut space = copied(counts);
@@ -27,7 +27,7 @@ pub fn is_object(counts: &[u8], object: &[u8]) -> bool
 
 // The earliest: the letters in ascending order.
 pub fn first(counts: &[u8], object: &mut [u8])
-    requires { (length counts.now ≤ wide_places) × (length object.old ≡ total counts.now) }
+    requires { (length counts.now ≤ places) × (length object.old ≡ total counts.now) }
     ensures { First (anagrams counts.now) object.new }
 {
     let mut at = 0;
@@ -42,7 +42,7 @@ pub fn first(counts: &[u8], object: &mut [u8])
 
 // The latest: the letters in descending order.
 pub fn last(counts: &[u8], object: &mut [u8])
-    requires { (length counts.now ≤ wide_places) × (length object.old ≡ total counts.now) }
+    requires { (length counts.now ≤ places) × (length object.old ≡ total counts.now) }
     ensures { Last (anagrams counts.now) object.new }
 {
     first(counts, object);

@@ -1,17 +1,17 @@
 // Kind 3: permutations of 1 to n, the anagrams with every letter once. It lends a list of ones and proves nothing again; the steps are
 // those of anagrams.
 ghost use Rattle.std.specs.Prelude.{◌≡◌, ℕ, ◌≤◌, length, take};
-ghost use Rattle.basics.specs.Limits.{places};
+ghost use Rattle.basics.specs.Limits.{places, longest_object};
 ghost use Rattle.listings.specs.Places.{First, Last};
 ghost use Rattle.anagrams.specs.Permutations.{ones, is_permutation, permutations};
 
-use basics::NARROW_OBJECT;
+use basics::LONGEST_OBJECT;
 
 // The counts of every letter: the first n are those of the permutations of n.
-pub fn all_ones() -> [u8; NARROW_OBJECT]
-    ensures { (places ≡ length result) × ((n : ℕ) → n ≤ places → take n result ≡ ones n) }
+pub fn all_ones() -> [u8; LONGEST_OBJECT]
+    ensures { (longest_object ≡ length result) × ((n : ℕ) → n ≤ longest_object → take n result ≡ ones n) }
 {
-    [1u8; NARROW_OBJECT]
+    [1u8; LONGEST_OBJECT]
 }
 
 // Does the slice hold each of 1 to n?

@@ -1,13 +1,10 @@
-// The limits of the table of families, as specs/Limits.antt has them; sums of bytes, which the counts, the kinds and the questions share; and the
+// The limits of paper 01's table of families, as specs/Limits.antt has them; sums of bytes, which the counts, the kinds and the questions share; and the
 // test of a product, for bytes that are many parts of one length.
 ghost use Rattle.std.specs.Prelude.{◌≡◌, ◌+◌, ◌*◌, ◌<◌, ◌^◌, min, eqb};
 ghost use Rattle.basics.specs.Sums.{total};
 
-// Kinds 3 to 5 and 7: n and k are "0 to 80".
+// "A family has no more than 80 places".
 pub const PLACES: u64 = 80;
-
-// Kinds 1 and 2: n, k and the sum of the letter counts are at most 120.
-pub const WIDE_PLACES: u64 = 120;
 
 // Kind 6: "n branches, 0 to 40".
 pub const BRANCHES: u64 = 40;
@@ -15,11 +12,8 @@ pub const BRANCHES: u64 = 40;
 // The largest floor of a family, which is no number of places.
 pub const FLOORS: u64 = 80;
 
-// The room that an object of kinds 3 to 7 needs.
-pub const NARROW_OBJECT: usize = PLACES as usize;
-
 // The room that any object needs.
-pub const LONGEST_OBJECT: usize = WIDE_PLACES as usize;
+pub const LONGEST_OBJECT: usize = PLACES as usize;
 
 // A byte as a number, in a function of its own: its callers' proofs read the number and not the cast.
 pub fn wide(b: u8) -> u64

@@ -1,14 +1,14 @@
--- Every coefficient up to row 120 that is below 2^64 is what the parts of the factorials make, and the last rows say which are: tested
+-- Every coefficient within the places that is below 2^64 is what the parts of the factorials make, and the last columns say which are: tested
 -- once over the whole triangle. Assumes nothing.
-use Rattle.std.proofs.Common.{◌≡◌, ℕ, zero, suc, ◌+◌, ◌-◌, ◌*◌, ◌%◌, ◌^◌, ◌<◌, ◌≤◌, min, Bool, true, false, ◌&&◌, ◌||◌, eqb, ltb, leb, get_or, sym, refl, ap, ◌∙◌, zero-add, arith, ltb-true, lt-ltb, eqb-true, leb-true}
+use Rattle.std.proofs.Common.{◌≡◌, ℕ, zero, suc, ◌+◌, ◌-◌, ◌*◌, ◌%◌, ◌^◌, ◌<◌, ◌≤◌, Bool, true, false, ◌&&◌, ◌||◌, eqb, ltb, leb, get_or, sym, refl, ap, ◌∙◌, zero-add, arith, ltb-true, lt-ltb, eqb-true, leb-true}
 use mathlib.Core.Bool.{and-eq-true_iff, false≢true}
-use Rattle.basics.specs.Limits.{wide_places}
+use Rattle.basics.specs.Limits.{places}
 use Rattle.basics.specs.Sums.{range}
 use Rattle.numbers.specs.Numbers.{choose}
 use Rattle.numbers.proofs.Triangles.{row}
 use Rattle.numbers.proofs.Weighted.{step}
 use Rattle.numbers.proofs.Binomials.{pascal_weighted}
-use Rattle.binomials.specs.Inner.Factorials.{odds, inverses, twos, last_whole, last_rows}
+use Rattle.binomials.specs.Inner.Factorials.{odds, inverses, twos, last_columns}
 use Rattle.binomials.specs.Inner.Factors.{number_at}
 use Rattle.binomials.proofs.Rows.{holds, tests, every}
 
@@ -28,11 +28,11 @@ carries n k = get_or twos n 0 - twos_below n k 2
 abbrev pub made_of : ℕ → ℕ → ℕ
 made_of n k = odd_below n k 2 * get_or odds n 0 % 2 ^ 64 * 2 ^ carries n k % 2 ^ 64
 
--- what the last rows say of a column of the left half
+-- what the last columns say
 unfoldable pub within : ℕ → ℕ → Bool
-within n column = leb column last_whole || leb n (get_or last_rows (column - last_whole - 1) 0)
+within n k = ltb n 68 || (leb k (get_or last_columns (n - 68) 0) || leb (n - k) (get_or last_columns (n - 68) 0))
 
--- a coefficient that fits is what is made, and the last rows say so; of another they say that it does not fit
+-- a coefficient that fits is what is made, and the last columns say so; of another they say that it does not fit
 unfoldable judged : Bool → Bool → Bool → Bool
 judged true said made = said && made
 judged false true made = false
@@ -41,9 +41,9 @@ judged false false made = true
 -- is c, the entry k of row n, as the code has it?
 unfoldable right : ℕ → ℕ → ℕ → Bool
 right n k c =
-    leb (twos_below n k 2) (get_or twos n 0) && (ltb (get_or twos n 0) 256 && (ltb (carries n k) 64 && judged (ltb c (2 ^ 64)) (within n (min k (n - k))) (eqb (made_of n k) c)))
+    leb (twos_below n k 2) (get_or twos n 0) && (ltb (get_or twos n 0) 256 && (ltb (carries n k) 64 && judged (ltb c (2 ^ 64)) (within n k) (eqb (made_of n k) c)))
 
-tested : tests right (λ k. 1) (suc wide_places) 0 (row choose 0) ≡ true
+tested : tests right (λ k. 1) (suc places) 0 (row choose 0) ≡ true
 unfolding tests holds right judged within odd_below twos_below number_at step row range choose
 tested = refl
 
@@ -51,7 +51,7 @@ pub record Made (n k : ℕ) : Type 0 where
   pub fewer : twos_below n k 2 ≤ get_or twos n 0
   pub small : get_or twos n 0 < 256
   pub few : carries n k < 64
-  pub says : within n (min k (n - k)) ≡ ltb (choose n k) (2 ^ 64)
+  pub says : within n k ≡ ltb (choose n k) (2 ^ 64)
   pub made : choose n k < 2 ^ 64 → made_of n k ≡ choose n k
 
 judgement : (fits said made : Bool) → judged fits said made ≡ true → (said ≡ fits) × (fits ≡ true → made ≡ true)
@@ -66,7 +66,7 @@ read n k h =
     let a = (and-eq-true_iff (leb (twos_below n k 2) (get_or twos n 0)) _).0 h in
     let b = (and-eq-true_iff (ltb (get_or twos n 0) 256) _).0 a.1 in
     let d = (and-eq-true_iff (ltb (carries n k) 64) _).0 b.1 in
-    let j = judgement (ltb (choose n k) (2 ^ 64)) (within n (min k (n - k))) (eqb (made_of n k) (choose n k)) d.1 in
+    let j = judgement (ltb (choose n k) (2 ^ 64)) (within n k) (eqb (made_of n k) (choose n k)) d.1 in
     record {
       fewer = leb-true _ _ a.0;
       small = ltb-true _ _ b.0;
@@ -75,6 +75,6 @@ read n k h =
       made = λ l. eqb-true _ _ (j.1 (lt-ltb _ _ l));
     }
 
-pub made_of_lem : (n k : ℕ) → n ≤ wide_places → k ≤ n → Made n k
+pub made_of_lem : (n k : ℕ) → n ≤ places → k ≤ n → Made n k
 made_of_lem n k h b =
-    read n k (ap (λ (i : ℕ). right i k (choose i k)) (sym (zero-add n)) ∙ every right (λ j. 1) choose pascal_weighted (suc wide_places) 0 n k tested (omega arith) (omega arith))
+    read n k (ap (λ (i : ℕ). right i k (choose i k)) (sym (zero-add n)) ∙ every right (λ j. 1) choose pascal_weighted (suc places) 0 n k tested (omega arith) (omega arith))

@@ -1,7 +1,7 @@
 -- What a turn of the coefficient's loop adds to what is divided by, and what its last turn makes of it.
 -- Assumes nothing.
 use Rattle.std.proofs.Common.{◌≡◌, ℕ, zero, suc, ◌+◌, ◌-◌, ◌*◌, ◌%◌, ◌^◌, ◌<◌, ◌≤◌, get_or, ap, ◌∙◌, ap₂, add-one, arith}
-use Rattle.basics.specs.Limits.{wide_places}
+use Rattle.basics.specs.Limits.{places}
 use Rattle.numbers.specs.Numbers.{choose}
 use Rattle.binomials.specs.declared.factorials.Parts.{Parts}
 use Rattle.binomials.specs.Inner.Factorials.{odds, inverses, twos, parts_of}
@@ -28,14 +28,14 @@ module _ (n k i : ℕ) {p : Parts} (a : Asked n k i p) where
   unfolding twos_below
   twos_step e = rw add-one (ap₂ (λ (x y : ℕ). x + y) e a.even)
 
-few_twos : (n k i : ℕ) → n ≤ wide_places → k ≤ n → i ≤ 2 → twos_below n k i < 256
+few_twos : (n k i : ℕ) → n ≤ places → k ≤ n → i ≤ 2 → twos_below n k i < 256
 unfolding twos_below
 few_twos n k zero h b c = omega arith
 few_twos n k (suc zero) h b c = let m = made_of_lem n k h b in omega (arith, m.fewer, m.small)
 few_twos n k (suc (suc zero)) h b c = let m = made_of_lem n k h b in omega (arith, m.fewer, m.small)
 few_twos n k (suc (suc (suc i))) h b c = absurd (omega arith)
 
-pub twos_fit : (n k i t p : ℕ) → n ≤ wide_places → k ≤ n → i ≤ 1 → t + p ≡ twos_below n k (i + 1) → t + p < 256
+pub twos_fit : (n k i t p : ℕ) → n ≤ places → k ≤ n → i ≤ 1 → t + p ≡ twos_below n k (i + 1) → t + p < 256
 twos_fit n k i t p h b c e = omega (arith, few_twos n k (i + 1) h b (omega arith))
 
 -- the last turn
@@ -44,7 +44,7 @@ pub record Last (n k o t : ℕ) (p : Parts) : Type 0 where
   pub few : p.2 - t < 64
   pub made : {l : ℕ} → l ≡ o * p.0 % 2 ^ 64 → l * 2 ^ (p.2 - t) % 2 ^ 64 ≡ choose n k
 
-pub last : (n k i : ℕ) {o t : ℕ} {p : Parts} → n ≤ wide_places → k ≤ n → choose n k < 2 ^ 64 → i ≡ 2 → Asked n k i p → o ≡ odd_below n k i → t ≡ twos_below n k i → Last n k o t p
+pub last : (n k i : ℕ) {o t : ℕ} {p : Parts} → n ≤ places → k ≤ n → choose n k < 2 ^ 64 → i ≡ 2 → Asked n k i p → o ≡ odd_below n k i → t ≡ twos_below n k i → Last n k o t p
 unfolding number_at
 last n k i {o} {t} {p} h b c two a e f =
     let m = made_of_lem n k h b in

@@ -1,6 +1,6 @@
-// The factorials of 0 to 120 by their odd parts and their factors 2, and the last rows that fit; written by tools/factorials.py.
-ghost use Rattle.std.specs.Prelude.{◌≡◌, ◌-◌, ◌*◌, ◌/◌, ◌%◌, ◌^◌, ◌<◌, slice_index};
-ghost use Rattle.binomials.specs.Inner.Factorials.{parts_of, last_whole, last_rows};
+// The factorials of 0 to 80 by their odd parts and their factors 2, and the last columns that fit; written by tools/factorials.py.
+ghost use Rattle.std.specs.Prelude.{◌≡◌, ◌-◌, ◌≤◌, slice_index};
+ghost use Rattle.binomials.specs.Inner.Factorials.{parts_of, last_columns};
 
 // Of a factorial: its odd part modulo 2^64, the inverse of that modulo 2^64, and how often 2 divides it.
 #[derive(Drop)]
@@ -91,73 +91,30 @@ pub fn parts_of(n: u64) -> Parts
         78 => Parts(5677009799822906383, 13249376168112904943, 74),
         79 => Parts(5761916416980365473, 17913948427468845921, 74),
         80 => Parts(10362838011192275749, 18340184944461410477, 78),
-        81 => Parts(9286395589644512949, 15484839973864214429, 78),
-        82 => Parts(11807337701233998589, 17924581923135042133, 79),
-        83 => Parts(2331593295815647239, 11995205034093268407, 79),
-        84 => Parts(12069971064709488787, 571200239718727067, 81),
-        85 => Parts(11376616446281208015, 10423704891503261231, 81),
-        86 => Parts(9579161273643602629, 11825251043759561741, 82),
-        87 => Parts(3283547490063606003, 7981089445643827259, 82),
-        88 => Parts(17672278316990114417, 15818344191729981073, 85),
-        89 => Parts(4859523946808295753, 592267779091562745, 85),
-        90 => Parts(15764392795568241109, 6162076197438551933, 86),
-        91 => Parts(14160450721074466487, 8176174056547479303, 86),
-        92 => Parts(12095717331650351729, 8375809338854043281, 88),
-        93 => Parts(18097067420909613837, 9214258459456918469, 88),
-        94 => Parts(2011941392112476003, 15895404710805084747, 89),
-        95 => Parts(6666991513589704125, 8516898946108587413, 89),
-        96 => Parts(1554230467059560759, 8987881006606046343, 94),
-        97 => Parts(3186402715100980695, 11312843106757418471, 94),
-        98 => Parts(8559780450271641127, 8136621809278734743, 95),
-        99 => Parts(17314781259962648853, 15920301697723137597, 95),
-        100 => Parts(8594417803746534157, 6539770171495982021, 97),
-        101 => Parts(1039226714051023905, 14493391603906441185, 97),
-        102 => Parts(16107074269183115923, 16560723037663456155, 98),
-        103 => Parts(17268427165710846245, 15383824944689081005, 98),
-        104 => Parts(3128624269726381793, 9697253029765106977, 101),
-        105 => Parts(14910899068207710793, 4133070159286521849, 101),
-        106 => Parts(15514399519207504157, 1470189555738202421, 102),
-        107 => Parts(18280525995052850975, 6909719182281497823, 102),
-        108 => Parts(13958855949978634309, 14603383138154891917, 104),
-        109 => Parts(8882284503487907169, 17734539144990351009, 104),
-        110 => Parts(8910301775386552279, 12396678650882440167, 105),
-        111 => Parts(11366061161301067321, 3103045693492381705, 105),
-        112 => Parts(5775451834269264783, 3078541395314561903, 109),
-        113 => Parts(6990014692592613919, 7373292254090658271, 109),
-        114 => Parts(11049211929878409447, 17281591722117489367, 110),
-        115 => Parts(16280774923767576517, 11859947035677519629, 110),
-        116 => Parts(10973870946520928593, 1681152937348159409, 112),
-        117 => Parts(11117559656989583877, 2537000496723940045, 112),
-        118 => Parts(10299977182551142183, 13799893893897359511, 113),
-        119 => Parts(8212175858755513121, 6316551738170415329, 113),
-        120 => Parts(12502173439075387119, 1650886387458664463, 116),
         _ => Parts(0, 0, 0),
     }
 }
 
-// Up to this column of the left half every coefficient within the limit is below 2^64.
-pub const LAST_WHOLE: u64 = 15;
-
-// The number at a place of a word that has seven bits for each.
-fn number_in(word: u64, at: u64) -> u64
-    requires { at < 9 }
-    ensures { result ≡ word / 2 ^ (7 * at) % 128 }
+// The last column of row n, from 68 on, whose coefficient is below 2^64.
+pub fn last_column(n: u64) -> u64
+    requires { 68 ≤ n }
+    ensures { result ≡ slice_index last_columns (n - 68) }
 {
-    (word >> (7 * at)) % 128
-}
-
-// The last row in which a later column of the left half is below 2^64, and 0 where none is. Nine rows share a word: so small, the compiler takes it into
-// those that ask.
-pub fn last_row(column: u64) -> u64
-    requires { last_whole < column }
-    ensures { result ≡ slice_index last_rows (column - last_whole - 1) }
-{
-    let at = column - LAST_WHOLE - 1;
-    if at < 9 {
-        return number_in(5375392043670992116, at);
+    let row = n - 68;
+    match row {
+        0 => 30,
+        1 => 28,
+        2 => 27,
+        3 => 26,
+        4 => 25,
+        5 => 24,
+        6 => 24,
+        7 => 23,
+        8 => 23,
+        9 => 22,
+        10 => 22,
+        11 => 21,
+        12 => 21,
+        _ => 0,
     }
-    if at < 18 {
-        return number_in(4865873471398323144, at - 9);
-    }
-    0
 }

@@ -1,13 +1,13 @@
 // Binomial coefficients without a table of them: n! / k! / (n - k)!, with the factors 2 counted apart and the odd parts divided modulo 2^64, where
 // an odd number has an inverse. Exact wherever the coefficient is below 2^64.
-ghost use Rattle.std.specs.Prelude.{◌≡◌, ◌-◌, ◌*◌, ◌%◌, ◌^◌, ◌<◌, ◌≤◌, min, nat_lt};
-ghost use Rattle.basics.specs.Limits.{wide_places};
+ghost use Rattle.std.specs.Prelude.{◌≡◌, ◌*◌, ◌%◌, ◌^◌, ◌<◌, ◌≤◌, nat_lt};
+ghost use Rattle.basics.specs.Limits.{places};
 ghost use Rattle.numbers.specs.Numbers.{choose};
 ghost use Rattle.binomials.specs.Inner.Factors.{number_at};
 
 mod factorials;
 
-use factorials::{LAST_WHOLE, last_row, parts_of};
+use factorials::{last_column, parts_of};
 
 // a * b modulo 2^64, by halves of 32 bits: the compiler makes one multiplication of it.
 fn low(a: u64, b: u64) -> u64
@@ -21,28 +21,22 @@ fn low(a: u64, b: u64) -> u64
     std::num::wrapping_add_u64(mid * 4294967296, a0 * b0)
 }
 
-// The column of the left half of row n that has the same number.
-fn on_the_left(n: u64, k: u64) -> u64
-    requires { k ≤ n }
-    ensures { result ≡ min k (n - k) }
-{
-    let others = n - k;
-    if k < others { k } else { others }
-}
-
 // Is k out of n below 2^64?
 pub fn coefficient_fits(n: u64, k: u64) -> bool
-    requires { n ≤ wide_places }
+    requires { n ≤ places }
     ensures { result ≡ nat_lt (choose n k) (2 ^ 64) }
 {
     if n < k {
         return true;
     }
-    let column = on_the_left(n, k);
-    if column <= LAST_WHOLE {
+    if n < 68 {
         return true;
     }
-    n <= last_row(column)
+    let last = last_column(n);
+    if k <= last {
+        return true;
+    }
+    n - k <= last
 }
 
 // The numbers whose factorials make k out of n, in turn: k and n - k, which divide, and n.
@@ -61,7 +55,7 @@ fn number_at(n: u64, k: u64, i: u64) -> u64
 
 // k out of n, where that is below 2^64. One call in a loop: the compiler puts the table of `parts_of` in line, and unrolls the loop.
 pub fn coefficient(n: u64, k: u64) -> u64
-    requires { (n ≤ wide_places) × (choose n k < 2 ^ 64) }
+    requires { (n ≤ places) × (choose n k < 2 ^ 64) }
     ensures { result ≡ choose n k }
 {
     if n < k {

@@ -2,7 +2,7 @@
 // paper's table by a case of their own. `catalan_that_fits` and `derangement_that_fits`, for ranks, answer a plain number, and 0 where it
 // doesn't fit.
 ghost use Rattle.std.specs.Prelude.{◌≡◌, ◌&&◌, cond, leb};
-ghost use Rattle.basics.specs.Limits.{places, wide_places, branches, floors};
+ghost use Rattle.basics.specs.Limits.{places, branches, floors};
 ghost use Rattle.basics.specs.Sums.{total};
 ghost use Rattle.numbers.specs.Numbers.{choose, factorial_of, multinomial_of, stirling_of, parts_from, catalan_of, derangements_of};
 ghost use Rattle.counting.specs.declared.Count.TheVariants.{Outside};
@@ -11,7 +11,7 @@ ghost use Rattle.counting.specs.Answers.{fits, if_fits};
 mod product;
 mod short;
 
-use basics::{BRANCHES, FLOORS, PLACES, WIDE_PLACES};
+use basics::{BRANCHES, FLOORS, PLACES};
 
 #[derive(Drop)]
 pub enum Count {
@@ -19,18 +19,18 @@ pub enum Count {
     Exactly(u64),
     // The count is 2^64 or more.
     TooLarge,
-    // The arguments lie outside the limits of the table.
+    // The arguments lie outside the limits of paper 01's table.
     Outside,
 }
 
 // Kind 1, what COUNT answers: subsets of k out of n, a number of paper 01's constant table or worked out from it.
 pub fn subset_count(n: u64, k: u64) -> Count
-    ensures { result ≡ cond (leb n wide_places && leb k wide_places) (fits (choose n k)) Outside }
+    ensures { result ≡ cond (leb n places && leb k places) (fits (choose n k)) Outside }
 {
-    if WIDE_PLACES < n {
+    if PLACES < n {
         return Count::Outside;
     }
-    if WIDE_PLACES < k {
+    if PLACES < k {
         return Count::Outside;
     }
     if !binomials::coefficient_fits(n, k) {
@@ -41,12 +41,12 @@ pub fn subset_count(n: u64, k: u64) -> Count
 
 // The same number for the questions and for products, by a few multiplications whatever the row.
 pub fn coefficient(n: u64, k: u64) -> Count
-    ensures { result ≡ cond (leb n wide_places && leb k wide_places) (fits (choose n k)) Outside }
+    ensures { result ≡ cond (leb n places && leb k places) (fits (choose n k)) Outside }
 {
-    if WIDE_PLACES < n {
+    if PLACES < n {
         return Count::Outside;
     }
-    if WIDE_PLACES < k {
+    if PLACES < k {
         return Count::Outside;
     }
     product::ways_out_of(n, k)
@@ -54,7 +54,7 @@ pub fn coefficient(n: u64, k: u64) -> Count
 
 // Kind 2: anagrams, letter i as often as counts[i] says.
 pub fn multinomial(counts: &[u8]) -> Count
-    ensures { result ≡ cond (leb (total counts.now) wide_places) (fits (multinomial_of counts.now)) Outside }
+    ensures { result ≡ cond (leb (total counts.now) places) (fits (multinomial_of counts.now)) Outside }
 {
     if product::within_places(counts) {
         return product::of_binomials(counts);

@@ -1,24 +1,24 @@
 // The multinomial as a product of binomials, from the last letter to the first.
 ghost use Rattle.std.specs.Prelude.{◌≡◌, leb, ◌≤◌, ◌*◌};
-ghost use Rattle.basics.specs.Limits.{wide_places};
+ghost use Rattle.basics.specs.Limits.{places};
 ghost use Rattle.basics.specs.Sums.{total};
 ghost use Rattle.numbers.specs.Numbers.{choose, multinomial_of};
 ghost use Rattle.counting.specs.Answers.{fits};
 
 use crate::Count;
-use basics::{WIDE_PLACES, sum_to_limit, wide};
+use basics::{PLACES, sum_to_limit, wide};
 use binomials::{coefficient, coefficient_fits};
 
-// Is the sum of the counts within their limit?
+// Is the sum of the counts within the places?
 pub fn within_places(counts: &[u8]) -> bool
-    ensures { result ≡ leb (total counts.now) wide_places }
+    ensures { result ≡ leb (total counts.now) places }
 {
-    sum_to_limit(WIDE_PLACES, counts) <= WIDE_PLACES
+    sum_to_limit(PLACES, counts) <= PLACES
 }
 
 // k out of n, exactly or too large.
 pub fn ways_out_of(n: u64, k: u64) -> Count
-    requires { n ≤ wide_places }
+    requires { n ≤ places }
     ensures { result ≡ fits (choose n k) }
 {
     if !coefficient_fits(n, k) {
@@ -47,7 +47,7 @@ fn times(x: u64, y: u64) -> Count
 
 // The words of the last letters, one letter more at each turn: first the places of that letter, then the word of the others.
 pub fn of_binomials(counts: &[u8]) -> Count
-    requires { total counts.now ≤ wide_places }
+    requires { total counts.now ≤ places }
     ensures { result ≡ fits (multinomial_of counts.now) }
 {
     let mut words: u64 = 1;

@@ -101,8 +101,8 @@ module _ (m key : ℕ) where
     | no h ↦ having-pair N key longer shorter (omega arith) ∙ rw (left_of_lem m key, left_in_pair m key (omega arith))
   ]
 
-  left-fewer : derangements_of (left_of N key) ≤ derangements_of N
-  left-fewer = let grows = derangement_grows m in elim (dec_lt key N) [
+  left_fewer : derangements_of (left_of N key) ≤ derangements_of N
+  left_fewer = let grows = derangement_grows m in elim (dec_lt key N) [
     | yes h ↦ rw (left_of_lem m key, left_in_cycle m key h) grows.0
     | no h ↦ rw (left_of_lem m key, left_in_pair m key (omega arith)) grows.1
   ]
@@ -154,7 +154,7 @@ numbers (suc (suc m)) {a} {b} two fits p q =
       two = two;
       all = rw fewer (sym (derangement_rule m));
       with_key = having-is m;
-      fewer = left-fewer m;
+      fewer = left_fewer m;
       stands = at_key m;
     }
 

@@ -2,7 +2,6 @@
 -- Assumes nothing.
 use mathlib.Core.Bool.{Bool, not, ◌&&◌}
 use Prim.Native.Nat.{ℕ}
-use native.Mathlib.Omega.{arith}
 use lib.Dec.{leb, eqb}
 use borrow.Author.Tests.{leb-true}
 use Rattle.basics.specs.Limits.{places}
@@ -21,5 +20,5 @@ laws n k lent =
       long = long n;
       counted = λ q h. counted n;
       positive = λ q h. derangement_some n;
-      short = λ q h. omega (arith, leb-true n places (and-true (leb n places) (eqb k 0) q).0);
+      short = λ q h. leb-true n places (and-true (leb n places) (eqb k 0) q).0;
     }

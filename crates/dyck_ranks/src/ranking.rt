@@ -1,7 +1,7 @@
 // The number of a Dyck word and the word of a number: first the words with a shorter inside, then the inside's rank times the rests, then
 // the rest's.
 ghost use Rattle.std.specs.Prelude.{◌≡◌, true, suc, ◌+◌, ◌*◌, ◌-◌, ◌≤◌, ◌<◌, ◌^◌, length};
-ghost use Rattle.basics.specs.Limits.{places};
+ghost use Rattle.basics.specs.Limits.{longest_object};
 ghost use Rattle.numbers.specs.Numbers.{catalan_of};
 ghost use Rattle.listings.specs.Places.{At};
 ghost use Rattle.dyck_words.specs.Objects.{is_dyck_word};
@@ -45,7 +45,7 @@ fn shorter_insides(n: u64, j: u64) -> u64
 // Ranking lends the inside and the rest to itself as parts from the middle of the word.
 pub fn rank_of(n: u64, object: &[u8], rows: &[u8; ROWS], left: usize) -> u64
     requires object_value { is_dyck_word n object.now ≡ true }
-    requires object_len_bound { (length object.now ≤ left) × (left ≤ places) × Told object.now left rows.now }
+    requires object_len_bound { (length object.now ≤ left) × (left ≤ longest_object) × Told object.now left rows.now }
     requires n_bound { catalan_of n < 2 ^ 64 }
     ensures { At (dyck_words n) object.now result }
 {

@@ -9,7 +9,7 @@ use lib.Dec.{eqb}
 use lib.ListN.{length, get_or, set, drop, replicate, length-append, length-drop, drop_of_length-le}
 use lib.Seq.{get_or-set_same, get_or-set_other, drop-cons}
 use borrow.Author.Tests.{eqb-true, eqb-false}
-use Rattle.basics.specs.Limits.{places}
+use Rattle.basics.specs.Limits.{longest_object}
 use Rattle.basics.proofs.Bools.{true_or_false}
 use Rattle.listings.specs.Bytes.{Bytes}
 use Rattle.dyck_words.specs.Trees.{Tree, leaf, node, word}
@@ -22,10 +22,10 @@ zeros zero k = refl
 zeros (suc n) zero = refl
 zeros (suc n) (suc k) = zeros n k
 
-pub told_none : (x : Bytes) → Told (drop (length x - 0) x) 0 (replicate (places + 1) 0)
+pub told_none : (x : Bytes) → Told (drop (length x - 0) x) 0 (replicate (longest_object + 1) 0)
 told_none x = rw (drop_of_length-le x {i = length x - 0} (omega arith)) (record {
-  low = λ k. omega (arith, zeros (places + 1) k);
-  tells = λ a b t e s. omega (arith, zeros (places + 1) (0 - length a), ap length e, length-append a (word t ++ b), length-append (word t) b);
+  low = λ k. omega (arith, zeros (longest_object + 1) k);
+  tells = λ a b t e s. omega (arith, zeros (longest_object + 1) (0 - length a), ap length e, length-append a (word t ++ b), length-append (word t) b);
 })
 
 -- a byte c more in front of d bytes y, and the length of its row in the table

@@ -2,14 +2,14 @@
 // left fall. And a table of how long each row is, so that steps and ranks need not read an inside again at each level.
 
 ghost use Rattle.std.specs.Prelude.{◌≡◌, ℕ, ◌≤◌, ◌<◌, length, get_or};
-ghost use Rattle.basics.specs.Limits.{places};
+ghost use Rattle.basics.specs.Limits.{longest_object};
 ghost use Rattle.dyck_words.specs.Inner.Reading.{RowRead, BranchRead, RowHere, Told};
 ghost use Rattle.dyck_words.specs.Trees.{Tree, node, word};
 
-use basics::NARROW_OBJECT;
+use basics::LONGEST_OBJECT;
 
 // As many rows as the table has: one for each number of bytes that may be left.
-pub const ROWS: usize = NARROW_OBJECT + 1;
+pub const ROWS: usize = LONGEST_OBJECT + 1;
 
 // How far a reader came, or that no word stands there.
 #[derive(Drop)]
@@ -56,7 +56,7 @@ fn branch(object: &[u8], at: usize) -> Read
 
 // How long the row is that starts with the byte first, in front of d bytes whose rows the table has: 1, an inside, 0, a rest.
 fn row_here(first: u8, rows: &[u8; ROWS], d: usize) -> u8
-    requires { (d < places) × ((k : ℕ) → get_or rows.now k 0 ≤ k) }
+    requires { (d < longest_object) × ((k : ℕ) → get_or rows.now k 0 ≤ k) }
     ensures { RowHere first rows.now d result }
 {
     if first != 1 {
@@ -72,12 +72,12 @@ fn row_here(first: u8, rows: &[u8; ROWS], d: usize) -> u8
 // The table: for each place of a word that an object may be, by how many bytes are left there, how long the row is that starts there. One pass
 // from the right.
 pub fn row_lengths(object: &[u8]) -> [u8; ROWS]
-    requires { length object.now ≤ places }
+    requires { length object.now ≤ longest_object }
     ensures { Told object.now (length object.now) result }
 {
     let mut rows = [0u8; ROWS];
     let mut d = 0;
-    while d < NARROW_OBJECT {
+    while d < LONGEST_OBJECT {
         if object.len() <= d {
             return rows;
         }
@@ -90,7 +90,7 @@ pub fn row_lengths(object: &[u8]) -> [u8; ROWS]
 
 // How long the inside is of a word that isn't empty, with left bytes from its start on: the table has it.
 pub fn inside_len(object: &[u8], rows: &[u8; ROWS], left: usize) -> usize
-    requires object_nonzero { (0 < length object.now) × (length object.now ≤ left) × (left ≤ places) }
+    requires object_nonzero { (0 < length object.now) × (length object.now ≤ left) × (left ≤ longest_object) }
     requires told { Told object.now left rows.now }
     ensures { (i u : Tree) → object.now ≡ word (node i u) → result ≡ length (word i) }
 {

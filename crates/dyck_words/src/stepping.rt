@@ -1,7 +1,7 @@
 // The steps of Dyck words, one function for both directions: the rest moves first, then the inside, then the inside's length; what lies behind
 // the place that moved starts over. Each part of a word is lent with the table of the whole word's rows, and with how many of its bytes are left where the part starts.
 ghost use Rattle.std.specs.Prelude.{◌≡◌, true, ℕ, suc, ◌+◌, ◌*◌, ◌≤◌, ◌<◌, length};
-ghost use Rattle.basics.specs.Limits.{places, branches};
+ghost use Rattle.basics.specs.Limits.{longest_object, branches};
 ghost use Rattle.listings.specs.Calls.{Said, act};
 ghost use Rattle.listings.specs.Directions.{step_call};
 ghost use Rattle.listings.specs.Steps.{step_as};
@@ -64,7 +64,7 @@ fn resize_inside(up: bool, object: &mut [u8], len: usize) -> Step
 // The rest; or the inside, with the rest started over; or the inside's length.
 fn step(up: bool, object: &mut [u8], rows: &[u8; ROWS], left: usize) -> Step
     requires object_value { (t : Tree) × (object.old ≡ word t) }
-    requires object_len_bound { (length object.old ≤ left) × (left ≤ places) × Told object.old left rows.now }
+    requires object_len_bound { (length object.old ≤ left) × (left ≤ longest_object) × Told object.old left rows.now }
     ensures { (t : Tree) → object.old ≡ word t → AfterStep up t result object.new }
 {
     if object.len() == 0 {

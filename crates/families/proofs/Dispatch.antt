@@ -9,7 +9,7 @@ use native.Mathlib.Omega.{arith}
 use lib.Dec.{leb, ltb, eqb}
 use lib.ListN.{length, get_or}
 use borrow.Author.Tests.{leb-true, ltb-true, eqb-true, eqb-false, ne_eqb, not-true, lt-ltb, lt-leb}
-use Rattle.basics.specs.Limits.{wide_places, longest_object}
+use Rattle.basics.specs.Limits.{places, longest_object}
 use Rattle.basics.specs.Sums.{total}
 use Rattle.basics.proofs.Bools.{and-true, or_cases}
 use Rattle.listings.specs.Bytes.{Bytes}
@@ -97,10 +97,6 @@ module _ (kind : ℕ) (f : Family) (b : Lent) (x : Bytes) (e : f.kind ≡ kind) 
 pub n_within : (n limit : ℕ) (t : Bool) → (leb n limit && t) ≡ true → n ≤ limit
 n_within n limit t e = leb-true n limit (and-true (leb n limit) t e).0
 
--- the second
-pub k_within : (n m k limit : ℕ) → (leb n m && leb k limit) ≡ true → k ≤ limit
-k_within n m k limit e = leb-true k limit (and-true (leb n m) (leb k limit) e).1
-
 -- the bounds of every row are two limits, by the kind's number
 
 zero_most : (k : ℕ) → eqb k 0 ≡ leb k 0
@@ -128,11 +124,11 @@ two_limits f b e =
 module _ {f : Family} {b : Lent} (t : Handed f b (row_at 2 f b)) where
   pub letters_fit : length b.counts ≤ longest_object
   letters_fit =
-      let many = (and-true (eqb (length b.counts) f.n) (leb (total b.counts) wide_places) t.fits).0 in
-      omega (arith, n_within f.n wide_places (eqb f.k 0) t.bounds, eqb-true (length b.counts) f.n many)
+      let many = (and-true (eqb (length b.counts) f.n) (leb (total b.counts) places) t.fits).0 in
+      omega (arith, n_within f.n places (eqb f.k 0) t.bounds, eqb-true (length b.counts) f.n many)
 
-  pub sum_fits : leb (total b.counts) wide_places ≡ true
-  sum_fits = (and-true (eqb (length b.counts) f.n) (leb (total b.counts) wide_places) t.fits).1
+  pub sum_fits : leb (total b.counts) places ≡ true
+  sum_fits = (and-true (eqb (length b.counts) f.n) (leb (total b.counts) places) t.fits).1
 
 -- the objects have m at the least, and "none when k = 0 < n"
 pub shared : (n m k : ℕ) → (leb m n && (ltb 0 k || eqb n 0)) ≡ true → (m ≤ n) × (k ≡ 0 → n ≡ 0)

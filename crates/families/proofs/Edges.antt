@@ -11,7 +11,7 @@ use native.Mathlib.Omega.{arith}
 use lib.Dec.{leb, eqb}
 use lib.ListN.{length}
 use borrow.Author.Tests.{ltb-true, ltb-false, eqb-true, le-leb, lt-leb, ne_eqb}
-use Rattle.basics.specs.Limits.{wide_places}
+use Rattle.basics.specs.Limits.{places}
 use Rattle.basics.specs.Sums.{total}
 use Rattle.basics.proofs.Bools.{and-true, true_or_false}
 use Rattle.listings.specs.Bytes.{Bytes}
@@ -61,7 +61,7 @@ said_empty : (f : Family) (b : Lent) → lists_fit f b ≡ true → EmptyAlone f
 unfolding row
 said_empty f b fits (subsets e k) = record { size = rw (e, k); has = rw (e, k) (le-leb 0 f.n (omega arith)) }
 said_empty f b fits (anagrams e n) =
-    let counts = (and-true (eqb (length b.counts) f.n) (leb (total b.counts) wide_places) (sym (with_counts_lem f b e) ∙ fits)).0 in
+    let counts = (and-true (eqb (length b.counts) f.n) (leb (total b.counts) places) (sym (with_counts_lem f b e) ∙ fits)).0 in
     record { size = rw e (none_left b.counts (eqb-true (length b.counts) f.n counts ∙ n)); has = rw e }
 said_empty f b fits (permutations e n) = record { size = rw (e, n); has = rw e }
 said_empty f b fits (set_partitions_lem e n k) = record { size = rw (e, n); has = rw (e, n, k) }

@@ -134,7 +134,7 @@ module _ (f : Family) (b : Lent) where
     pub has_object_lem : ltb 0 (count_of f b) ≡ (row f b).has_object
     has_object_lem = ap (λ (v : ℕ). ltb 0 v) count_is ∙ (row_laws f b).positive bounded fitting
 
-    -- no family has more than 120 places
+    -- "A family has no more than 80 places"
     pub short : object_length f b ≤ longest_object
     unfolding object_length
     short = (row_laws f b).short bounded fitting

@@ -12,6 +12,5 @@ pub mod Answered
 pub mod Edges
 pub mod Floors
 pub mod Editions
-pub mod Widths
 pub mod Demand
 pub mod Cases

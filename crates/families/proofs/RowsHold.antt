@@ -8,7 +8,7 @@ use Prim.Native.Nat.{ℕ, zero, suc, ◌+◌}
 use native.Mathlib.Omega.{arith}
 use lib.Dec.{leb, eqb}
 use lib.ListN.{length, get_or}
-use Rattle.basics.specs.Limits.{wide_places}
+use Rattle.basics.specs.Limits.{places}
 use Rattle.basics.specs.Sums.{total}
 use Rattle.listings.specs.Bytes.{Bytes}
 use Rattle.listings.specs.Listings.{Listing, Ascending}
@@ -61,7 +61,7 @@ unfolding no_row
 lawful_rows f b =
     more (no_row_laws b) (λ h. refl)
     (more (subset.laws f.n f.k (no_counts b)) (λ h. refl)
-    (more (anagram.laws f.n b.counts (leb f.n wide_places && eqb f.k 0)) (λ h. absurd (h refl))
+    (more (anagram.laws f.n b.counts (leb f.n places && eqb f.k 0)) (λ h. absurd (h refl))
     (more (anagram.permutation_laws f.n f.k (no_counts b)) (λ h. refl)
     (more (set-partition.laws (edition_of f.edition) f.n f.k (no_counts b)) (λ h. refl)
     (more (integer-partition.laws f.floor f.n f.k (no_counts b)) (λ h. refl)
@@ -83,8 +83,8 @@ pub row_laws : (f : Family) (b : Lent) → RowLaws (row f b)
 unfolding row
 row_laws f b = laws_at (lawful_rows f b) f.kind
 
--- "the count list n long for kind 2", and the sum at most 120
-pub with_counts_lem : (f : Family) (b : Lent) → f.kind ≡ 2 → lists_fit f b ≡ (eqb (length b.counts) f.n && leb (total b.counts) wide_places)
+-- "the count list n long for kind 2 with a sum of at most 80"
+pub with_counts_lem : (f : Family) (b : Lent) → f.kind ≡ 2 → lists_fit f b ≡ (eqb (length b.counts) f.n && leb (total b.counts) places)
 unfolding lists_fit row
 with_counts_lem f b e = rw e
 

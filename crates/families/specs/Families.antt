@@ -29,7 +29,7 @@ floor_fits f = cond (eqb f.kind 5) (leb 1 f.floor && leb f.floor floors) (eqb f.
 unfoldable pub edition_fits : Family → Bool
 edition_fits f = cond (eqb f.kind 4) (leb 1 f.edition && leb f.edition 2) (eqb f.edition 1)
 
--- question 3: "Is the count list n long for kind 2 with a sum of at most" 120, "and empty for other kinds?" (SCOPE 4.3)
+-- question 3: "Is the count list n long for kind 2 with a sum of at most 80, and empty for other kinds?" (SCOPE 4.3)
 unfoldable pub lists_fit : Family → Lent → Bool
 lists_fit f b = (row f b).lists_fit
 

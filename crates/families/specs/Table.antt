@@ -1,7 +1,7 @@
--- The table of families (SCOPE 1): what is lent beside a family, and a row for each kind, over the family and everything lent.
+-- Paper 01's table of families (SCOPE 1): what is lent beside a family, and a row for each kind, over the family and everything lent.
 -- Assumes nothing.
 use Rattle.std.specs.Prelude.{Bool, true, false, not, ◌&&◌, ◌||◌, List, [], ◌∷◌, ℕ, ◌*◌, leb, ltb, eqb, length, get_or}
-use Rattle.basics.specs.Limits.{places, wide_places, branches}
+use Rattle.basics.specs.Limits.{places, branches}
 use Rattle.basics.specs.Sums.{total}
 use Rattle.numbers.specs.Numbers.{choose, multinomial_of, factorial_of, stirling_of, parts_from, catalan_of, derangements_of}
 use Rattle.listings.specs.Rows.{Row}
@@ -43,10 +43,10 @@ plain_family kind n k = record { kind = kind; n = n; k = k; floor = 1; edition =
 unfoldable pub no_counts : Lent → Bool
 no_counts b = eqb (length b.counts) 0
 
--- 1 sites used: "n and k up to 120", "k site numbers from 1 to n, strictly ascending" (SCOPE 1.1); "no object when k > n" (SCOPE 1.b)
+-- 1 sites used: "n, k 0 to 80", "k site numbers from 1 to n, strictly ascending" (SCOPE 1.1); "no object when k > n" (SCOPE 1.b)
 abbrev pub subset_row : Family → Lent → Row
 subset_row f b = record {
-  in_bounds = leb f.n wide_places && leb f.k wide_places;
+  in_bounds = leb f.n places && leb f.k places;
   lists_fit = no_counts b;
   object_length = f.k;
   is_object = is_subset f.n f.k;
@@ -56,12 +56,12 @@ subset_row f b = record {
   has_object = leb f.k f.n;
 }
 
--- 2 hanging: "n up to 120 and letter counts summing to at most 120", "word with letter i exactly as often as count i says" (SCOPE 1.2); "the count list n
--- long" (SCOPE 4.3)
+-- 2 hanging: "n letters, 0 to 80; k is 0", "word with letter i exactly as often as count i says" (SCOPE 1.2); "the count list n long .. with a sum of
+-- at most 80" (SCOPE 4.3)
 abbrev pub anagram_row : Family → Lent → Row
 anagram_row f b = record {
-  in_bounds = leb f.n wide_places && eqb f.k 0;
-  lists_fit = eqb (length b.counts) f.n && leb (total b.counts) wide_places;
+  in_bounds = leb f.n places && eqb f.k 0;
+  lists_fit = eqb (length b.counts) f.n && leb (total b.counts) places;
   object_length = total b.counts;
   is_object = is_anagram b.counts;
   comes_before = anagram_before;

@@ -11,7 +11,7 @@ ghost use Rattle.families.specs.Inner.Sizes.{size_as};
 ghost use Rattle.families.specs.Inner.Bounds.{most_n, most_k};
 
 use crate::{Family, Lists};
-use basics::{BRANCHES, FLOORS, PLACES, WIDE_PLACES, sum_to_limit};
+use basics::{BRANCHES, FLOORS, PLACES, sum_to_limit};
 use counting::Count;
 
 // The last kind of the table.
@@ -36,9 +36,6 @@ pub fn is_kind(f: Family) -> bool
 fn most_n(kind: u64) -> u64
     ensures { result ≡ most_n kind }
 {
-    if kind <= 2 {
-        return WIDE_PLACES;
-    }
     if kind == 6 {
         return BRANCHES;
     }
@@ -50,7 +47,7 @@ fn most_k(kind: u64) -> u64
     ensures { result ≡ most_k kind }
 {
     match kind {
-        1 => WIDE_PLACES,
+        1 => PLACES,
         4 => PLACES,
         5 => PLACES,
         _ => 0,
@@ -104,7 +101,7 @@ pub fn lists_fit<'a>(f: Family, lists: Lists<'a>) -> bool
     if counts.len() as u64 != n {
         return false;
     }
-    sum_to_limit(WIDE_PLACES, counts) <= WIDE_PLACES
+    sum_to_limit(PLACES, counts) <= PLACES
 }
 
 // Whether n things can be shared out over k blocks with none left empty; over parts of a floor, k is what they have together at the least.
@@ -152,7 +149,7 @@ pub fn object_length<'a>(f: Family, lists: Lists<'a>) -> u64
     let k = f.k;
     match kind {
         1 => k,
-        2 => sum_to_limit(WIDE_PLACES, counts),
+        2 => sum_to_limit(PLACES, counts),
         3 => n,
         4 => n,
         5 => k,

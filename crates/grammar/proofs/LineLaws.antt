@@ -64,9 +64,9 @@ unfolding fields handed_on
 counts_all p x m i h = let e : m - i ≡ 0 = omega arith in rw e (ap some (append-nil p))
 
 -- what a line must be
-pub line_width_lem : (m : ℕ) (x : Bytes) → (length x ≡ line_width m → ⊥) → line m x ≡ none
+pub line-width : (m : ℕ) (x : Bytes) → (length x ≡ line_width m → ⊥) → line m x ≡ none
 unfolding line
-line_width_lem m x h = rw (ne_eqb (length x) (line_width m) h)
+line-width m x h = rw (ne_eqb (length x) (line_width m) h)
 
 pub line_end : (m : ℕ) (x : Bytes) → (get_or x (field_width * m) 0 ≡ newline → ⊥) → line m x ≡ none
 unfolding line

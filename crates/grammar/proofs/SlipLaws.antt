@@ -18,7 +18,7 @@ use Rattle.grammar.specs.declared.Head.{Head}
 use Rattle.grammar.specs.Grammar.{Slip, cons_field, fields, line, fields_on, start_of, head_of, counts_on, second_line, handed_on, with_counts, slip_with, slip_from, slip_of}
 use Rattle.grammar.specs.Sizes.{family_width, line_width}
 use Rattle.grammar.specs.Inner.Reading.{slip_at}
-use Rattle.grammar.proofs.LineLaws.{line_width_lem, line_end, line-fields}
+use Rattle.grammar.proofs.LineLaws.{line-width, line_end, line-fields}
 
 -- the front without its first field
 shorter : (a n : ℕ) (x : Bytes) → a ≤ n → drop a (take n x) ≡ take (n - a) (drop a x)
@@ -45,7 +45,7 @@ module _ (m : ℕ) (x : Bytes) where
   first = line m (take (line_width m) x)
 
   pub first_short : length x < line_width m → first ≡ none
-  first_short h = line_width_lem m (take (line_width m) x) (λ e. omega (arith, length-take (line_width m) x))
+  first_short h = line-width m (take (line_width m) x) (λ e. omega (arith, length-take (line_width m) x))
 
   pub first_open : (get_or x (field_width * m) 0 ≡ newline → ⊥) → first ≡ none
   first_open h = line_end m (take (line_width m) x) (λ e. h (sym (get_or-take (line_width m) x (field_width * m) 0 (omega arith)) ∙ e))

@@ -2,7 +2,6 @@
 -- Assumes nothing.
 use mathlib.Core.Bool.{Bool, ◌&&◌, ◌||◌}
 use Prim.Native.Nat.{ℕ, ◌*◌}
-use native.Mathlib.Omega.{arith}
 use lib.Dec.{leb, ltb, eqb}
 use borrow.Author.Tests.{leb-true}
 use Rattle.basics.specs.Limits.{places}
@@ -21,5 +20,5 @@ laws f n k lent =
       long = long f n k;
       counted = λ e h. counted f n k;
       positive = λ e h. parts_some f n k;
-      short = λ e h. omega (arith, leb-true k places (and-true (leb n places) (leb k places) e).1);
+      short = λ e h. leb-true k places (and-true (leb n places) (leb k places) e).1;
     }

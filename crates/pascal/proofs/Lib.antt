@@ -1,3 +1,4 @@
--- Vandermonde's sum, and the table against the addition rule.
+-- Stores in a list, the window before a place of a row, and the table against the addition rule.
+pub mod Stores
 pub mod Tested
-pub mod Vandermonde
+pub mod Windows

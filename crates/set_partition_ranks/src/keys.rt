@@ -1,9 +1,9 @@
 // The keys of set partitions, read from the blocks.
 ghost use Rattle.std.specs.Prelude.{◌≡◌, cond, ◌≤◌, ltb, length, take};
-ghost use Rattle.basics.specs.Limits.{places};
+ghost use Rattle.basics.specs.Limits.{longest_object};
 ghost use Rattle.set_partitions.specs.Objects.{keys as keys_in};
 
-use basics::NARROW_OBJECT;
+use basics::LONGEST_OBJECT;
 
 // The key of a model in block b, behind models in the blocks 1 to `used`.
 fn key_of(used: u8, b: u8) -> u8
@@ -14,11 +14,11 @@ fn key_of(used: u8, b: u8) -> u8
 
 // The key of each model. Blocks are numbered by their smallest models, so a model is the smallest of its block just if its block is above all
 // in front: one pass tells them all.
-pub fn keys_of(object: &[u8]) -> [u8; NARROW_OBJECT]
-    requires { length object.now ≤ places }
-    ensures { (places ≡ length result) × (take (length object.now) result ≡ keys_in 0 object.now) }
+pub fn keys_of(object: &[u8]) -> [u8; LONGEST_OBJECT]
+    requires { length object.now ≤ longest_object }
+    ensures { (longest_object ≡ length result) × (take (length object.now) result ≡ keys_in 0 object.now) }
 {
-    let mut keys = [0u8; NARROW_OBJECT];
+    let mut keys = [0u8; LONGEST_OBJECT];
     let mut used: u8 = 0;
     let mut i = 0;
     while i < object.len() {

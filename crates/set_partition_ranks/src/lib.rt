@@ -1,7 +1,7 @@
 // Ranks of kind 4, partitions of n models into k blocks: the rank of a partition, and the partition of a rank, in the order of either edition. Called by
 // `families`, which shows what each function requires.
 ghost use Rattle.std.specs.Prelude.{◌≡◌, true, ◌≤◌, ◌<◌, ◌^◌, length, take};
-ghost use Rattle.basics.specs.Limits.{places};
+ghost use Rattle.basics.specs.Limits.{places, longest_object};
 ghost use Rattle.basics.specs.Sums.{range};
 ghost use Rattle.numbers.specs.Numbers.{stirling_of};
 ghost use Rattle.stirling_rows.specs.Inner.Stored.{last_row};
@@ -16,7 +16,7 @@ ghost use Rattle.set_partition_ranks.specs.Inner.Ranks.{Written, KeysOf};
 mod keys;
 mod last_key;
 
-use basics::NARROW_OBJECT;
+use basics::LONGEST_OBJECT;
 use keys::keys_of;
 use last_key::{back_by, block_of, earlier, others_in, place_at};
 use listings::{copy, fill_up};
@@ -28,7 +28,7 @@ const FEW: usize = LAST_ROW as usize;
 
 // By the keys of n models: through the rank of the partition left when the last of them is taken out. With as many blocks as models there is one
 // partition. The numbers are stored.
-fn rank_of_few(edition: u64, n: usize, k: u64, keys: &[u8; NARROW_OBJECT]) -> u64
+fn rank_of_few(edition: u64, n: usize, k: u64, keys: &[u8; LONGEST_OBJECT]) -> u64
     requires n_le_last_row { (n ≤ last_row) × (stirling_of n k < 2 ^ 64) }
     requires keys_of { KeysOf n k (take n keys.now) }
     ensures { (x : Bytes) → is_set_partition n k x ≡ true → take n keys.now ≡ keys_in 0 x → result ≡ count_before (set_partition_before (edition_of edition)) x (set_partitions (edition_of edition) n k) }
@@ -49,7 +49,7 @@ fn rank_of(
     edition: u64,
     n: usize,
     k: u64,
-    keys: &[u8; NARROW_OBJECT],
+    keys: &[u8; LONGEST_OBJECT],
     band: &[u64; CAPACITY],
     w: usize,
     at: usize,
@@ -105,7 +105,7 @@ pub fn rank(edition: u64, k: u64, object: &[u8]) -> u64
 
 // The partition of a rank, of n models: the key of the last model, and the partition of the others. The n places have each model in a block of its
 // own, as is right where there are as many blocks as models. The numbers are stored.
-fn write_few(edition: u64, rank: u64, n: usize, k: u64, blocks: &mut [u8; NARROW_OBJECT])
+fn write_few(edition: u64, rank: u64, n: usize, k: u64, blocks: &mut [u8; LONGEST_OBJECT])
     requires n_le_last_row { n ≤ last_row }
     requires rank_bound { (rank < stirling_of n k) × (stirling_of n k < 2 ^ 64) }
     requires blocks_value { take n blocks.old ≡ range 1 n }
@@ -128,7 +128,7 @@ fn write_many(
     rank: u64,
     n: usize,
     k: u64,
-    blocks: &mut [u8; NARROW_OBJECT],
+    blocks: &mut [u8; LONGEST_OBJECT],
     band: &[u64; CAPACITY],
     w: usize,
     at: usize,
@@ -159,10 +159,10 @@ fn write_many(
 }
 
 // Each model in a block of its own.
-fn each_alone() -> [u8; NARROW_OBJECT]
-    ensures { result ≡ range 1 places }
+fn each_alone() -> [u8; LONGEST_OBJECT]
+    ensures { result ≡ range 1 longest_object }
 {
-    let mut blocks = [0u8; NARROW_OBJECT];
+    let mut blocks = [0u8; LONGEST_OBJECT];
     fill_up(&mut blocks, 1);
     blocks
 }

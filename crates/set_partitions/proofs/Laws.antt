@@ -2,7 +2,6 @@
 -- Assumes nothing.
 use mathlib.Core.Bool.{Bool, ◌&&◌, ◌||◌}
 use Prim.Native.Nat.{ℕ}
-use native.Mathlib.Omega.{arith}
 use lib.Dec.{leb, ltb, eqb}
 use borrow.Author.Tests.{leb-true}
 use Rattle.basics.specs.Limits.{places}
@@ -22,5 +21,5 @@ laws e n k lent =
       long = long n k;
       counted = λ q h. counted e n k;
       positive = λ q h. stirling_some n k;
-      short = λ q h. omega (arith, leb-true n places (and-true (leb n places) (leb k places) q).0);
+      short = λ q h. leb-true n places (and-true (leb n places) (leb k places) q).0;
     }

@@ -1,6 +1,6 @@
 // Kind 1: subsets of k out of 1 to n, over lent byte slices. Called by `families`, which shows what each function requires.
 ghost use Rattle.std.specs.Prelude.{◌≡◌, true, ◌≤◌, ◌<◌, ◌^◌, length};
-ghost use Rattle.basics.specs.Limits.{wide_places};
+ghost use Rattle.basics.specs.Limits.{places};
 ghost use Rattle.numbers.specs.Numbers.{choose};
 ghost use Rattle.listings.specs.Calls.{NEXT, PREVIOUS, Said, act};
 ghost use Rattle.listings.specs.Places.{At, First, Last, count_before};
@@ -40,7 +40,7 @@ pub fn is_object(n: u64, k: u64, object: &[u8]) -> bool
 
 // The earliest: 1, 2, .., k.
 pub fn first(n: u64, object: &mut [u8])
-    requires { (n ≤ wide_places) × (length object.old ≤ n) }
+    requires { (n ≤ places) × (length object.old ≤ n) }
     ensures { First (subsets n (length object.old)) object.new }
 {
     fill_up(object, 1);
@@ -48,7 +48,7 @@ pub fn first(n: u64, object: &mut [u8])
 
 // The latest: n - k + 1, .., n.
 pub fn last(n: u64, object: &mut [u8])
-    requires { (n ≤ wide_places) × (length object.old ≤ n) }
+    requires { (n ≤ places) × (length object.old ≤ n) }
     ensures { Last (subsets n (length object.old)) object.new }
 {
     let k = object.len() as u64;
@@ -58,7 +58,7 @@ pub fn last(n: u64, object: &mut [u8])
 
 // The first number that can go up by one does, and those in front of it start over.
 pub fn next(n: u64, object: &mut [u8]) -> Step
-    requires { (n ≤ wide_places) × (is_subset n (length object.old) object.old ≡ true) }
+    requires { (n ≤ places) × (is_subset n (length object.old) object.old ≡ true) }
     ensures { ◌≡◌ {A = Said} (step_as result, object.new) (act NEXT subset_before (subsets n (length object.old)) object.old) }
 {
     let i = number_to_raise(n, object);
@@ -72,7 +72,7 @@ pub fn next(n: u64, object: &mut [u8]) -> Step
 
 // The first number that can go down by one does, and those in front of it become the largest below it.
 pub fn previous(n: u64, object: &mut [u8]) -> Step
-    requires { (n ≤ wide_places) × (is_subset n (length object.old) object.old ≡ true) }
+    requires { (n ≤ places) × (is_subset n (length object.old) object.old ≡ true) }
     ensures { ◌≡◌ {A = Said} (step_as result, object.new) (act PREVIOUS subset_before (subsets n (length object.old)) object.old) }
 {
     let i = number_to_lower(object);
@@ -89,7 +89,7 @@ pub fn previous(n: u64, object: &mut [u8]) -> Step
 // How many come before it, with a summand for each place, from the last to the first: a number b at place j, counted from 1, adds those that have a
 // smaller one there and the same ones behind it, the subsets of j out of the numbers below b. So 3 4 6 7 has 15 + 10 + 3 + 2 before it.
 pub fn rank(n: u64, object: &[u8]) -> u64
-    requires n_le_wide_places { n ≤ wide_places }
+    requires n_le_places { n ≤ places }
     requires object_value { is_subset n (length object.now) object.now ≡ true }
     requires object_bound { choose n (length object.now) < 2 ^ 64 }
     ensures { result ≡ count_before subset_before object.now (subsets n (length object.now)) }
@@ -107,7 +107,7 @@ pub fn rank(n: u64, object: &[u8]) -> u64
 
 // The object of a rank: its last number leaves as many below it as fit into the rank, and the others make up the rest.
 pub fn unrank(rank: u64, n: u64, object: &mut [u8])
-    requires n_le_wide_places { n ≤ wide_places }
+    requires n_le_places { n ≤ places }
     requires object_bound { choose n (length object.old) < 2 ^ 64 }
     requires rank_bound { rank < choose n (length object.old) }
     ensures { At (subsets n (length object.old)) object.new rank }

@@ -1,6 +1,6 @@
 // The searches behind the steps and ranks of subsets: each reads, and answers a place or a number.
 ghost use Rattle.std.specs.Prelude.{◌≡◌, true, ℕ, suc, ◌+◌, ◌≤◌, ◌<◌, ◌^◌, length, get_or};
-ghost use Rattle.basics.specs.Limits.{wide_places};
+ghost use Rattle.basics.specs.Limits.{places};
 ghost use Rattle.numbers.specs.Numbers.{choose};
 
 use basics::wide;
@@ -8,7 +8,7 @@ use binomials::coefficient;
 
 // The first place whose number leaves room below the next (below n + 1 at the last place), or the length.
 pub fn number_to_raise(n: u64, object: &[u8]) -> usize
-    requires { n ≤ wide_places }
+    requires { n ≤ places }
     ensures upper_bound { result ≤ length object.now }
     ensures by_index { (i : ℕ) → i < result → get_or object.now (suc i) (suc n) ≤ suc (get_or object.now i 0) }
     ensures result_bound { result < length object.now → suc (get_or object.now result 0) < get_or object.now (suc result) (suc n) }
@@ -50,7 +50,7 @@ pub fn number_to_lower(object: &[u8]) -> usize
 pub struct Top(pub u64, pub u64);
 
 pub fn largest_top(rank: u64, n: u64, k: u64) -> Top
-    requires n_le_wide_places { (n ≤ wide_places) × (choose n k < 2 ^ 64) }
+    requires n_le_places { (n ≤ places) × (choose n k < 2 ^ 64) }
     requires k_nonzero { (0 < k) × (rank < choose n k) }
     ensures { (result.0 < n) × ((result.1 ≡ choose result.0 k) × ((choose result.0 k ≤ rank) × (rank < choose (suc result.0) k))) }
 {

@@ -18,8 +18,7 @@
 // and `large_families` (at both edges of 2^64 and at 80 places): objects by rank, counted place by place as Loehr does, a step being the
 // rank one up or down; so there the order rests on the same recursion as our listings. `floors`: kind 5 with floors, small ones the first way,
 // large ones the second, and floors that are refused, on every kind. `editions`: the same of kind 4 in both editions, every family of up to 8
-// models the first way. `derangements`: kind 7, families of up to 7 models the first way, and 80 models far from both ends and back. `wide`: kinds 1
-// and 2 beyond 80 places, up to 120 and one beyond, the second way; and that the other kinds keep their limits.
+// models the first way. `derangements`: kind 7, families of up to 7 models the first way, and 80 models far from both ends and back.
 //
 // `published` has the worked examples of the sources that concern these orders, beyond the twelve proof cases, with the number of each
 // example, typed from the sources: Loehr's chapter (000) 5.20 to 5.41, Loehr 2019 (004) 3.1, 3.3 and 3.4, and Wilf (001) 4 (2), whose order is
@@ -36,9 +35,6 @@ use calls::{Heard, answer, call, is_put, title};
 use families::{Family, Lists};
 use test_support::{behind, bytes, decimal, end_line, list, number, text, until};
 use walks::{summed, walk, with_object};
-
-// One byte more than any object or list of counts has, by which longer ones are seen.
-const ROOM: usize = LONGEST_OBJECT + 1;
 
 // How a call's line begins.
 fn heading(label: &[u8], letter: u8, rank: u64) {
@@ -131,9 +127,9 @@ fn family(line: &[u8], start: usize) -> Family {
 fn lend(label: &[u8], letters: &[u8], rank: u64, f: Family, line: &[u8], start: usize)
     requires { start ≤ length line.now }
 {
-    let mut object = [0u8; ROOM];
+    let mut object = [0u8; LONGEST_OBJECT];
     let places = list(line, start, &mut object);
-    let mut counts = [0u8; ROOM];
+    let mut counts = [0u8; LONGEST_OBJECT];
     let lent = list(line, behind(line, start, b'/'), &mut counts);
     let lists = families::only_counts(&counts[..lent]);
     operations(label, letters, rank, f, lists, &mut object[..places]);

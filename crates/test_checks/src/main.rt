@@ -16,8 +16,7 @@
 // bytes don't have, some of which they have where bits are lost. `large_families`: listings of up to 300 objects or 80 places.
 // `below_64_bits`, `beyond_64_bits`: the first entries of listings that no list is long enough for. `other_orders`: the right objects in
 // another order, and listings of other families. `editions`: the same of kind 4 and its editions. `derangements`: kind 7. `refusals`: each
-// question missed, and others behind it; question 5, which isn't put. `wide`: kinds 1 and 2 beyond 80 places, up to 120: listings of up to 120
-// objects whole, and the first entries of others.
+// question missed, and others behind it; question 5, which isn't put.
 ghost use Rattle.std.specs.Prelude.{◌≤◌, length};
 ghost use Rattle.io.specs.Counts.{IsPrefixLen};
 
@@ -26,7 +25,7 @@ use families::{Family, Lists};
 use test_support::{behind, decimal, end_line, list, number, text, until, wide, within};
 
 // More counts than any family has.
-const MOST: usize = 130;
+const MOST: usize = 100;
 
 fn told(answer: Checked) {
     match answer {

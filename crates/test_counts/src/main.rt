@@ -1,9 +1,7 @@
 // Prints the counts that the lines of standard input ask for, on each side of 2^64 and of the limits, and then every count of n alone or of n and
-// k, so all but the multinomials, up to 80 places and one step beyond them: of partitions with floor 1 and with floor 2. Last, every binomial of n
-// and k up to 120 and one step beyond, a line a row.
-//
-// A line of the input is the text to print, a colon, and the numbers: n and k, behind them the floor of partitions, or the counts of a multinomial. A
-// text says a floor behind n and k, and only where it isn't 1.
+// k, so all but the multinomials, within the limits and one step beyond them: of partitions with floor 1 and with floor 2. A line of the input is the
+// text to print, a colon, and the numbers: n and k, behind them the floor of partitions, or the counts of a multinomial. A text says a floor behind n
+// and k, and only where it isn't 1.
 //
 // The expected text, `stdout`, is written by tests/expected/counts.py: math.comb and math.factorial for binomials, factorials and Catalan
 // numbers, factorials for multinomials, the alternating sum over binomials for Stirling numbers and derangements (not their recursion), and for
@@ -11,30 +9,22 @@
 ghost use Rattle.std.specs.Prelude.{◌≤◌, ◌+◌};
 ghost use Rattle.basics.specs.Limits.{places};
 
-use basics::{LONGEST_OBJECT, PLACES, WIDE_PLACES};
+use basics::{LONGEST_OBJECT, PLACES};
 use counting::Count;
 use libc::STDIN_FILENO;
 use test_support::{behind, decimal, list, number, text, until};
 
-// The rows up to 80 places, and one beyond them.
+// The rows within the limits, and one beyond them.
 const ROWS: u64 = PLACES + 2;
 
-// The rows of binomials, and the entries compared in each: those within the limits, and one beyond them.
-const WIDE_ROWS: u64 = WIDE_PLACES + 2;
-
-// An answer.
-fn told(c: Count) {
+// What ends every line.
+fn answer(c: Count) {
+    text(b":");
     match c {
         Count::Exactly(v) => number(v),
         Count::TooLarge => text(b" too large"),
         Count::Outside => text(b" outside"),
     }
-}
-
-// What ends the line of one count.
-fn answer(c: Count) {
-    text(b":");
-    told(c);
     text(b"\n");
 }
 
@@ -160,37 +150,9 @@ fn all_rows() {
     }
 }
 
-// Every entry of row n, also far behind the row, by both ways.
-fn entries(n: u64) {
-    let mut k: u64 = 0;
-    while k < WIDE_ROWS {
-        agree(n, k);
-        told(counting::subset_count(n, k));
-        k += 1;
-    }
-}
-
-// Row n of the binomials.
-fn binomial_row(n: u64) {
-    text(b"binomials");
-    number(n);
-    text(b":");
-    entries(n);
-    text(b"\n");
-}
-
-fn all_binomials() {
-    let mut n: u64 = 0;
-    while n < WIDE_ROWS {
-        binomial_row(n);
-        n += 1;
-    }
-}
-
 fn main() {
     let mut input = io::large_buffer();
     let read = io::read_full(STDIN_FILENO, &mut input);
     edges(&input[..read]);
     all_rows();
-    all_binomials();
 }

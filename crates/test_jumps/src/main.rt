@@ -12,15 +12,14 @@
 // The cases and the expected text, `stdout`, that of the files in turn, are written by tests/expected/jumps.py, on the listings.
 // `small_families`: kinds 1 to 6, from each object to each other and beyond both ends. `both_ends`: the smallest and the largest distance.
 // `large_families`: up to 2^64 - 1 objects and the longest there are. `refusals`: each question missed, and others behind it. `floors`: kind 5
-// with floors, and floors that are refused, on every kind. `editions`: the same of kind 4 and its editions. `derangements`: kind 7. `wide`: kinds 1
-// and 2 beyond 80 places, up to 120 and one beyond; and that the other kinds keep their limits.
+// with floors, and floors that are refused, on every kind. `editions`: the same of kind 4 and its editions. `derangements`: kind 7.
 use families::{Family, Lists};
 use libc::STDOUT_FILENO;
 use std::num::{wrapping_add_u64, wrapping_sub_u64};
 use test_support::{Read, behind, bytes, decimal, end_line, list, number, text, until, wide};
 
 // More bytes than any object or list of counts has.
-const MOST: usize = 130;
+const MOST: usize = 100;
 
 // A distance d is read, counted up and printed as d + 2^63 (offset binary), which is unsigned: 0 stands for the smallest.
 const MIDDLE: u64 = 9223372036854775808;

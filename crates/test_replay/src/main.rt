@@ -10,8 +10,7 @@
 // listing that is fed no answer. `small_families`: kinds 1 to 6, to END and beyond, there and back, through the ranks, from bytes that are no
 // object, and calls in no order. `refusals`: lists of calls in which each question is missed. `large_families`: at both edges of 2^64 and at
 // 80 places. `misfits`: codes that are no call's, and buffers of another length. `floors`: kind 5 with floors, and floors that are refused, on
-// every kind. `editions`: the same of kind 4 and its editions. `derangements`: kind 7. `wide`: kinds 1 and 2 beyond 80 places, up to 120 and one
-// beyond; and that the other kinds keep their limits.
+// every kind. `editions`: the same of kind 4 and its editions. `derangements`: kind 7.
 ghost use Rattle.std.specs.Prelude.{◌≤◌, length};
 
 use basics::LONGEST_OBJECT;
@@ -21,9 +20,6 @@ use test_support::{behind, bytes, decimal, end_line, list, text, until, wide_lis
 
 // The most calls of a case.
 const MOST: usize = 100;
-
-// One byte more than any object or list of counts has, by which longer ones are seen.
-const ROOM: usize = LONGEST_OBJECT + 1;
 
 // What a buffer holds before the calls.
 const UNWRITTEN: u8 = 255;
@@ -103,9 +99,9 @@ fn lend(label: &[u8], calls: &[u8], ranks: &[u64], line: &[u8], start: usize)
 {
     let first = behind(line, start, b'/');
     let second = behind(line, first, b'/');
-    let mut object = [0u8; ROOM];
+    let mut object = [0u8; LONGEST_OBJECT];
     let places = list(line, first, &mut object);
-    let mut counts = [0u8; ROOM];
+    let mut counts = [0u8; LONGEST_OBJECT];
     let lent = list(line, second, &mut counts);
     record(
         label,

@@ -18,8 +18,7 @@
 // no start gives. `refusals`: bytes that no start gives, each question missed, and others behind it. `lists_change`: other counts between the
 // steps.
 // `large_families`: at both edges of 2^64 and at 80 places. `floors`: kind 5 with floors, and floors that are refused, on every kind.
-// `editions`: the same of kind 4 and its editions. `derangements`: kind 7. `wide`: kinds 1 and 2 beyond 80 places, up to 120 and one beyond; that
-// the other kinds keep their limits; and made-up lengths at the end of the array.
+// `editions`: the same of kind 4 and its editions. `derangements`: kind 7.
 ghost use Rattle.std.specs.Prelude.{◌≡◌, ◌≤◌, length, take};
 
 use basics::LONGEST_OBJECT;
@@ -30,8 +29,8 @@ use test_support::{
 };
 use walk::{Stride, Walk};
 
-// The most bytes at a start and the most counts, more than any object and any family has; the most steps of a leg, and the most room for answers.
-const MOST: usize = 130;
+// The most bytes at a start, more than any object has; the most steps of a leg, and the most room for answers.
+const MOST: usize = 100;
 
 // What the room for answers holds before the steps.
 const UNWRITTEN: u8 = 255;
@@ -142,7 +141,7 @@ fn ways(leg: &[u8], start: usize, on: &mut [bool]) -> usize
 }
 
 fn one_leg<'a>(walk: Walk, first: Lists<'a>, leg: &[u8]) -> Walk {
-    let mut counts = [0u8; MOST];
+    let mut counts = [0u8; LONGEST_OBJECT];
     let lent = list(leg, 0, &mut counts);
     let lists = families::only_counts(&counts[..lent]);
     let room = decimal(leg, behind(leg, 0, b'/'));
@@ -215,7 +214,7 @@ fn one_case(line: &[u8]) {
     let colon = until(line, 0, b':');
     let end = until(line, colon, b';');
     let start = behind(line, colon, b';');
-    let mut counts = [0u8; MOST];
+    let mut counts = [0u8; LONGEST_OBJECT];
     let lent = list(line, start, &mut counts);
     let first = families::only_counts(&counts[..lent]);
     text(&line[..colon]);

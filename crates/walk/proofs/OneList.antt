@@ -8,7 +8,7 @@ use native.Mathlib.Omega.{arith}
 use lib.Dec.{leb, eqb}
 use lib.ListN.{length, get_or}
 use borrow.Author.Tests.{eqb-true}
-use Rattle.basics.specs.Limits.{wide_places}
+use Rattle.basics.specs.Limits.{places}
 use Rattle.basics.specs.Sums.{total}
 use Rattle.basics.proofs.Bools.{and-true}
 use Rattle.listings.specs.Bytes.{Bytes}
@@ -56,8 +56,8 @@ with_letters f b c x fits-b fits-c in_b in_c =
     letters : (d : Lent) → (eqb (length x) (total d.counts) && tallies 1 d.counts x) ≡ true → tallies 1 d.counts x ≡ true
     letters d o = (and-true (eqb (length x) (total d.counts)) (tallies 1 d.counts x) o).1
 
-    many : (d : Lent) → (eqb (length d.counts) f.n && leb (total d.counts) wide_places) ≡ true → length d.counts ≡ f.n
-    many d h = eqb-true (length d.counts) f.n (and-true (eqb (length d.counts) f.n) (leb (total d.counts) wide_places) h).0
+    many : (d : Lent) → (eqb (length d.counts) f.n && leb (total d.counts) places) ≡ true → length d.counts ≡ f.n
+    many d h = eqb-true (length d.counts) f.n (and-true (eqb (length d.counts) f.n) (leb (total d.counts) places) h).0
 
 -- the rows of the table with b and with c
 data Rows (b c : Lent) : List Row → List Row → Type 0 where

@@ -1,11 +1,11 @@
-//! Random calls of all kinds, valid and damaged, small, at 80 and at 120 places, and at both edges of 2^64, on the library and on the reference; then
+//! Random calls of all kinds, valid and damaged, small and at 80 places and at both edges of 2^64, on the library and on the reference; then
 //! walks, started or made up, jumps there and back, and checks of lists, right and damaged. The first difference is printed and ends the run with
 //! status 1.
 
 mod reference;
 
 use arrangements_example::{Arrangements, Family};
-use reference::{at_seam, joined, leap, most_places, refusal, stride, Kind, Listing, Tables, BRANCHES, FLOORS, LARGE, PLACES, WIDE_PLACES};
+use reference::{at_seam, joined, leap, refusal, stride, Kind, Listing, Tables, LARGE};
 use std::cmp::Ordering;
 
 struct Random(u64);
@@ -28,44 +28,37 @@ const CALLS: [&str; 8] = ["LENGTH", "COUNT", "FIRST", "LAST", "NEXT", "PREVIOUS"
 /// Kind, n and k, with their counts, of any size.
 fn sizes(r: &mut Random) -> Kind {
     let kind = 1 + r.below(7);
-    let most = most_places(kind);
-    let top = [4, 8, 12, 27, 68, most + 1][r.below(6) as usize];
+    let top = [4, 8, 12, 27, 68, 81][r.below(6) as usize];
     let (mut n, mut k, mut counts) = (r.below(top), 0, vec![]);
     match kind {
-        5 if r.below(2) == 0 => (n, k) = (r.below(most + 1), 1 + r.below(8)), // few parts: many floors leave more than one object
-        1 | 4 | 5 => k = if r.below(8) == 0 { r.below(most + 2) } else { r.below(n + 2) },
+        5 if r.below(2) == 0 => (n, k) = (r.below(81), 1 + r.below(8)), // few parts: many floors leave more than one object
+        1 | 4 | 5 => k = if r.below(8) == 0 { r.below(82) } else { r.below(n + 2) },
         2 => {
-            n = r.below(if top > 40 { most + 1 } else { top });
-            let each = if n == 0 { 1 } else { most / n + 2 };
-            counts = (0..n).map(|_| r.below(each) as u8).collect();
+            n = r.below(if top > 40 { 81 } else { top }.min(81));
+            let most = if n == 0 { 1 } else { 80 / n + 2 };
+            counts = (0..n).map(|_| r.below(most) as u8).collect();
         }
-        6 => n = r.below(top.min(BRANCHES + 2)),
+        6 => n = r.below(top.min(42)),
         _ => {}
     }
     Kind::of(kind, n, k, counts)
 }
 
-/// Families at the edges of 2^64 and of 80 and 120 places, and integer partitions with the largest floors.
-const EDGES: [(u64, u64, u64); 39] = [
-    (1, 67, 33), (1, 68, 30), (1, 68, 31), (1, 68, 34), (1, 70, 27), (1, 80, 21), (1, 80, 22), (1, 80, 40), (1, 81, 3), (1, 119, 15), (1, 120, 15),
-    (1, 120, 16), (1, 120, 60), (1, 120, 105), (1, 120, 119), (1, 120, 120), (1, 121, 3), (3, 20, 0), (3, 21, 0), (4, 26, 9), (4, 27, 8), (4, 65, 2),
-    (4, 66, 2), (4, 42, 3), (4, 49, 41), (4, 80, 75), (4, 80, 40), (5, 80, 18), (5, 80, 20), (5, 80, 2), (5, 80, 1), (5, 0, 0), (6, 36, 0), (6, 37, 0),
-    (6, 40, 0), (7, 1, 0), (7, 20, 0), (7, 21, 0), (7, 80, 0),
-];
-
-/// Letter counts on both sides of the edges of 2^64, of 120 letters and of a sum of 120; and 81 letters and a sum of 81, which kind 2 lets pass.
-const LETTERS: [&[u8]; 13] = [
-    &[15, 105], &[16, 104], &[60, 60], &[1; 120], &[118, 1, 1], &[120], &[40, 40, 40], &[0; 120], &[121], &[60, 61], &[1; 121], &[1; 81], &[80, 1],
+/// Families at the edges of 2^64 and of 80 places, and integer partitions with the largest floors.
+const EDGES: [(u64, u64, u64); 27] = [
+    (1, 67, 33), (1, 68, 34), (1, 80, 21), (1, 80, 22), (1, 80, 40), (3, 20, 0), (3, 21, 0), (4, 26, 9), (4, 27, 8), (4, 65, 2), (4, 66, 2), (4, 42, 3),
+    (4, 49, 41), (4, 80, 75), (4, 80, 40), (5, 80, 18), (5, 80, 20), (5, 80, 2), (5, 80, 1), (5, 0, 0), (6, 36, 0), (6, 37, 0), (6, 40, 0),
+    (7, 1, 0), (7, 20, 0), (7, 21, 0), (7, 80, 0),
 ];
 
 /// A floor. For kind 5 one round question 10's edges or round n / k, beyond which there are no objects, one that leaves objects, a small one, or 1; for
 /// the other kinds nearly always 1.
 fn floor(r: &mut Random, f: &Kind) -> u64 {
-    let edge = [0, 2, FLOORS - 1, FLOORS, FLOORS + 1, WIDE_PLACES, u64::MAX, r.next()][r.below(8) as usize];
+    let edge = [0, 2, 79, 80, 81, u64::MAX, r.next()][r.below(7) as usize];
     if f.kind != 5 {
         return if r.below(32) == 0 { edge } else { 1 };
     }
-    let most = f.n.checked_div(f.k).unwrap_or(FLOORS);
+    let most = f.n.checked_div(f.k).unwrap_or(80);
     match r.below(8) {
         0 => edge,
         1 => (most + r.below(3)).saturating_sub(1),
@@ -85,22 +78,11 @@ fn edition(r: &mut Random, f: &Kind) -> u64 {
     }
 }
 
-/// Kind, n and k, with their counts, at an edge.
-fn edge_sizes(r: &mut Random) -> Kind {
-    let at = r.below((EDGES.len() + LETTERS.len()) as u64) as usize;
-    match EDGES.get(at) {
-        Some(&(kind, n, k)) => Kind::of(kind, n, k, vec![]),
-        None => {
-            let counts = LETTERS[at - EDGES.len()];
-            Kind::of(2, counts.len() as u64, 0, counts.to_vec())
-        }
-    }
-}
-
 /// A family, mostly one that the questions let pass; some at the edges.
 fn family(r: &mut Random) -> Kind {
     let edge = r.below(6) == 0;
-    let mut f = if edge { edge_sizes(r) } else { sizes(r) };
+    let (kind, n, k) = EDGES[r.below(EDGES.len() as u64) as usize];
+    let mut f = if edge { Kind::of(kind, n, k, vec![]) } else { sizes(r) };
     f.floor = floor(r, &f);
     f.edition = edition(r, &f);
     if edge {
@@ -108,7 +90,7 @@ fn family(r: &mut Random) -> Kind {
     }
     match r.below(40) {
         0 => f.kind = r.below(9),
-        1 => f.n = [BRANCHES + 1, PLACES + 1, WIDE_PLACES + 1, r.next()][r.below(4) as usize],
+        1 => f.n = [41, 81, r.next()][r.below(3) as usize],
         2 => f.k = r.next(),
         3 => f.counts.push(r.below(256) as u8),
         4 => f.kind = r.next(),
@@ -186,13 +168,13 @@ fn shuffled(r: &mut Random, f: &Kind) -> Vec<u8> {
 /// A buffer: an object, an object with a byte changed or brought to its place, one of a lower floor, or any bytes of some length.
 fn buffer(r: &mut Random, t: &Tables, f: &Kind, usable: bool) -> Vec<u8> {
     if !usable || r.below(12) == 0 {
-        return (0..r.below(WIDE_PLACES + 10)).map(|_| r.below(5) as u8).collect();
+        return (0..r.below(90)).map(|_| r.below(5) as u8).collect();
     }
     let count = f.count(t);
     let rank = match r.below(4) {
         0 => 0,
         1 => count - 1,
-        _ => (((r.next() as u128) << 64) | r.next() as u128) % count,
+        _ => (((r.next() as u128) << 40) ^ r.next() as u128) % count,
     };
     if f.floor > 1 && r.below(6) == 0 {
         let lower = Kind { floor: 1 + r.below(f.floor - 1), ..f.clone() };
@@ -417,7 +399,7 @@ fn damage(r: &mut Random, own: &mut Vec<Vec<u8>>, size: usize) {
         0..=2 if size > 0 => {
             let at = place(r, size);
             let b = own[i][at];
-            own[i][at] = [b.wrapping_add(1), b.wrapping_sub(1), 0, 255, own[j][at], r.below(WIDE_PLACES + 2) as u8][r.below(6) as usize];
+            own[i][at] = [b.wrapping_add(1), b.wrapping_sub(1), 0, 255, own[j][at], r.below(82) as u8][r.below(6) as usize];
         }
         3 => {
             own.remove(i);
@@ -489,7 +471,7 @@ fn check(r: &mut Random, t: &Tables, kind: u64, verdicts: &mut Verdicts) -> Resu
     let (entries, bytes) = if usable(t, &f) {
         supplied(r, t, &f, &mut listing)
     } else {
-        let (entries, size) = (r.below(4), r.below(WIDE_PLACES + 10));
+        let (entries, size) = (r.below(4), r.below(90));
         ([entries, entries, r.next()][r.below(3) as usize], vec![1; (entries * size) as usize])
     };
     let (lib, lent, mut told) = (library(&f), bytes.clone(), 77);

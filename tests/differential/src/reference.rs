@@ -1,32 +1,15 @@
 //! An independent implementation of the families: objects by the table's words, order by a comparison, numbers by counting extensions in
-//! 128-bit arithmetic that stops at 2^120. It shares no code with the library: it has no steps, only ranks, so that a neighbour is the object
+//! 128-bit arithmetic that stops at 2^100. It shares no code with the library: it has no steps, only ranks, so that a neighbour is the object
 //! whose rank differs by one (of derangements, where ranks stop, the one that meets it at a seam); a walk's step is the object of that rank, whatever
 //! number the walk keeps, a jump's goal the object whose rank is a sum in 128 bits, and a place of a list is checked against the object of that rank.
 
 use std::cmp::Ordering;
 
-/// Kinds 3 to 5 and 7: n and k up to this.
-pub const PLACES: u64 = 80;
-
-/// Kinds 1 and 2: n, k and the sum of the letter counts up to this. No object is longer.
-pub const WIDE_PLACES: u64 = 120;
-
-/// Kind 6: n up to this.
-pub const BRANCHES: u64 = 40;
-
-/// Kind 5: floors up to this.
-pub const FLOORS: u64 = 80;
-
-/// Above C(120, 60), so that no count of subsets is cut off; of other kinds it stands for all that is larger, without overflow on the way.
-const CAP: u128 = 1 << 120;
+/// Large enough to stand for "2^64 or more" without overflow on the way.
+const CAP: u128 = 1 << 100;
 
 /// From here on a count or a rank may be cut off.
-pub const LARGE: u128 = 1 << 119;
-
-/// The largest n and k, and the largest sum of the counts, of a kind other than 6.
-pub fn most_places(kind: u64) -> u64 {
-    if kind <= 2 { WIDE_PLACES } else { PLACES }
-}
+pub const LARGE: u128 = 1 << 99;
 
 fn add(a: u128, b: u128) -> u128 {
     (a + b).min(CAP)
@@ -47,38 +30,33 @@ pub struct Tables {
 
 impl Tables {
     pub fn new() -> Self {
-        let (rows, wide_rows) = (PLACES as usize + 2, WIDE_PLACES as usize + 2);
-        let mut choose = vec![vec![0u128; wide_rows]; wide_rows];
-        for n in 0..wide_rows {
+        let mut choose = vec![vec![0u128; 82]; 82];
+        let mut blocks = vec![vec![0u128; 82]; 82];
+        for n in 0..82 {
             for k in 0..=n {
                 choose[n][k] = if k == 0 || k == n { 1 } else { add(choose[n - 1][k - 1], choose[n - 1][k]) };
-            }
-        }
-        let mut blocks = vec![vec![0u128; rows]; rows];
-        for n in 0..rows {
-            for k in 0..=n {
                 blocks[n][k] = if n == k { 1 } else if k == 0 { 0 } else { add(blocks[n - 1][k - 1], mul(k as u128, blocks[n - 1][k])) };
             }
         }
-        let mut parts = vec![vec![vec![0u128; rows]; rows + 1]; rows];
-        for f in 0..=rows {
+        let mut parts = vec![vec![vec![0u128; 82]; 83]; 82];
+        for f in 0..83 {
             parts[0][f][0] = 1;
         }
-        for k in 1..rows {
-            for f in (1..rows).rev() {
-                for n in 0..rows {
+        for k in 1..82 {
+            for f in (1..82).rev() {
+                for n in 0..82 {
                     let with = if f <= n { parts[k - 1][f][n - f] } else { 0 };
                     parts[k][f][n] = add(with, parts[k][f + 1][n]);
                 }
             }
         }
-        let mut catalan = vec![1u128; BRANCHES as usize + 2];
-        for n in 1..catalan.len() {
+        let mut catalan = vec![1u128; 42];
+        for n in 1..42 {
             catalan[n] = (0..n).fold(0, |s, j| add(s, mul(catalan[j], catalan[n - 1 - j])));
         }
         // D(n) = n D(n-1) + (-1)^n; what is cut off stays so
         let mut derangements = vec![1u128];
-        for n in 1..rows {
+        for n in 1..82 {
             let all = mul(n as u128, derangements[n - 1]);
             derangements.push(if n % 2 == 0 { add(all, 1) } else { all - (all < CAP) as u128 });
         }
@@ -149,18 +127,18 @@ impl Kind {
 
     /// The first of questions 1, 2, 10, 11 and 3 that refuses, or 0.
     fn table(&self) -> u32 {
-        let (n, k, most) = (self.n, self.k, most_places(self.kind));
+        let (n, k) = (self.n, self.k);
         let sum: u64 = self.counts.iter().map(|&c| c as u64).sum();
         match self.kind {
             0 | 8.. => 1,
-            1 | 4 | 5 if n > most || k > most => 2,
-            2 | 3 | 7 if n > most || k != 0 => 2,
-            6 if n > BRANCHES || k != 0 => 2,
-            5 if self.floor < 1 || self.floor > FLOORS => 10,
+            1 | 4 | 5 if n > 80 || k > 80 => 2,
+            2 | 3 | 7 if n > 80 || k != 0 => 2,
+            6 if n > 40 || k != 0 => 2,
+            5 if self.floor < 1 || self.floor > 80 => 10,
             1..=4 | 6 | 7 if self.floor != 1 => 10,
             4 if self.edition < 1 || self.edition > 2 => 11,
             1 | 2 | 3 | 5 | 6 | 7 if self.edition != 1 => 11,
-            2 if self.counts.len() as u64 != n || sum > most => 3,
+            2 if self.counts.len() as u64 != n || sum > 80 => 3,
             1 | 3..=7 if !self.counts.is_empty() => 3,
             _ => 0,
         }

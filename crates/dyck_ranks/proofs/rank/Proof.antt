@@ -4,14 +4,14 @@ use mathlib.Core.Path.{sym}
 use Prim.Native.Nat.{◌≤◌}
 use native.Mathlib.Omega.{arith}
 use lib.ListN.{length}
-use Rattle.basics.specs.Limits.{places}
+use Rattle.basics.specs.Limits.{longest_object}
 use Rattle.listings.proofs.Ranks.{place-is_rank}
 use Rattle.dyck_words.proofs.Theorem.{lists, long}
 use Rattle.dyck_ranks.proofs.rank.Statement.{statement}
 use Rattle.dyck_ranks.proofs.rank.Tie as tie
 
 -- the word fits into the table
-short : (c : tie.Start) → length c.args.object.now ≤ places
+short : (c : tie.Start) → length c.args.object.now ≤ longest_object
 short c = omega (arith, long c.args.n c.args.object.now c.requires.1.0)
 
 pub rank_spec : {M : Type 1} → statement M

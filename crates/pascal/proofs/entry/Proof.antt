@@ -10,14 +10,14 @@ use Rattle.pascal.proofs.Tested.{ruled}
 use Rattle.pascal.proofs.entry.Statement.{statement}
 use Rattle.pascal.proofs.entry.Tie as tie
 
-read-or-sum-requires : tie.Need-read-or-sum-requires
+read-or-climb-requires : tie.Need-read-or-climb-requires
 unfolding same rows step
-read-or-sum-requires c κs = ((omega arith, (omega arith, c.before.before.requires.1)), ruled _ refl)
+read-or-climb-requires c κs = ((omega arith, (omega arith, c.before.before.requires.1)), ruled _ refl)
 
 pub entry_spec : {M : Type 1} → statement M
 entry_spec =
     tie.close
     (tie.spec
     (λ c. sym (choose-none c.before.args.n c.before.args.k c.if1.true))
-    read-or-sum-requires
+    read-or-climb-requires
     (λ c. search rules))

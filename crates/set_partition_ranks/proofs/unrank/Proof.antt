@@ -4,7 +4,7 @@ use mathlib.Core.Path.{◌≡◌, refl, sym, ◌∙◌, ap}
 use Prim.Native.Nat.{◌+◌, ◌≤◌}
 use native.Mathlib.Omega.{arith}
 use lib.ListN.{length, take}
-use Rattle.basics.specs.Limits.{places}
+use Rattle.basics.specs.Limits.{longest_object}
 use Rattle.basics.specs.Sums.{range}
 use Rattle.basics.proofs.Ranges.{take_range}
 use Rattle.stirlings.specs.Inner.Band.{capacity}
@@ -19,7 +19,7 @@ few c = few_where_some (length c.args.object.now) c.args.k c.args.rank c.require
 
 -- the places that are written have each model alone
 alone : (c : tie.After-each-alone) → let n = length c.before.before.args.object.now in take n c.each_alone_lem.result ≡ range 1 n
-alone c = let n = length c.before.before.args.object.now in ap (take n) c.each_alone_lem.ensures ∙ take_range 1 places n c.before.before.requires.0
+alone c = let n = length c.before.before.args.object.now in ap (take n) c.each_alone_lem.ensures ∙ take_range 1 longest_object n c.before.before.requires.0
 
 pub unrank_spec : {M : Type 1} → statement M
 unrank_spec =

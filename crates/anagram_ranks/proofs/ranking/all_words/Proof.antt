@@ -5,7 +5,7 @@ use mathlib.Core.Path.{◌≡◌, ◌∙◌, sym}
 use native.Mathlib.Omega.{arith}
 use borrow.Author.Tests.{le-leb}
 use borrow.Author.Rules.{rules}
-use Rattle.basics.specs.Limits.{wide_places}
+use Rattle.basics.specs.Limits.{places}
 use Rattle.numbers.specs.Numbers.{multinomial_of}
 use Rattle.counting.specs.Answers.{fits}
 use Rattle.counting.proofs.Answers.{fits_small, within_in, exactly}
@@ -14,7 +14,7 @@ use Rattle.anagram_ranks.proofs.ranking.all_words.Tie as tie
 
 -- the arguments are within the limits
 answer : (c : tie.After-multinomial) → c.multinomial.result ≡ fits (multinomial_of c.before.before.args.counts.now)
-answer c = c.multinomial.ensures ∙ within_in _ _ (le-leb _ wide_places c.before.before.requires.0)
+answer c = c.multinomial.ensures ∙ within_in _ _ (le-leb _ places c.before.before.requires.0)
 
 returns : tie.Need-returns
 returns c = ⊎_elim (λ z. absurd (omega arith)) (λ z. absurd (omega arith)) (rw (answer c.before ∙ fits_small _ c.before.before.before.requires.1) at c.match.keys2)

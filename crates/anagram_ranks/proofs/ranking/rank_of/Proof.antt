@@ -6,7 +6,7 @@ use mathlib.Core.Path.{◌≡◌, refl, sym}
 use Prim.Native.Nat.{◌+◌, ◌-◌, ◌≤◌, ℕ}
 use native.Mathlib.Omega.{arith}
 use lib.ListN.{drop, get_or, length, take}
-use Rattle.basics.specs.Limits.{wide_places}
+use Rattle.basics.specs.Limits.{places}
 use Rattle.numbers.specs.Numbers.{multinomial_of, one_less}
 use Rattle.listings.proofs.Ranks.{place-is_rank}
 use Rattle.anagrams.specs.Objects.{is_anagram}
@@ -30,7 +30,7 @@ module _ (c : tie.In-loop invariant-loop decreases-loop) where
   here : Turn c.before.loop.left start.args.object.now c.before.loop.i
   here = let l = c.before.loop in turn l.left _ l.i c.loop-test.true l.invariant.1.1.0
 
-  short : length start.args.object.now ≤ wide_places
+  short : length start.args.object.now ≤ places
   short = omega (arith, long start.args.left.now start.args.object.now start.pre.1.0)
 
 -- the front with this letter, once the words in front of it are counted

@@ -10,7 +10,7 @@ use lib.Seq.{drop-cons, drop-length}
 use types.Run.{OneOf}
 use denote.Enum.Declared.{tag_of}
 use borrow.Author.Rules.{rules}
-use Rattle.basics.specs.Limits.{wide_places}
+use Rattle.basics.specs.Limits.{places}
 use Rattle.basics.specs.Sums.{total}
 use Rattle.basics.proofs.Totals.{total-drop-le}
 use Rattle.numbers.specs.Numbers.{choose, multinomial_of}
@@ -37,7 +37,7 @@ start cs = record { some = le_refl _; answer = rw drop-length (sym (fits_small 1
 -- one letter more, with x places
 record Letter (cs : List ℕ) (words size i x : ℕ) : Type 0 where
   behind : Words cs words size i
-  limit : total cs ≤ wide_places
+  limit : total cs ≤ places
   pos : 0 < i
   is : x ≡ get_or cs (i - 1) 0
 
@@ -53,7 +53,7 @@ module _ {cs : List ℕ} {words size i x : ℕ} (l : Letter cs words size i x) w
   unfolding multinomial_of
   more-words = rw (next, exactly _ _ (sym l.behind.answer), ← l.behind.long, add_comm size x, mul_comm words)
 
-  short : size + x ≤ wide_places
+  short : size + x ≤ places
   short = omega (arith, longer, total-drop-le cs (i - 1))
 
   -- .. and with the answer r of the binomial

@@ -5,10 +5,10 @@ use Prim.Native.Nat.{ℕ}
 use lib.Dec.{leb}
 use borrow.Author.Rules.{rules}
 use Rattle.basics.specs.Sums.{total}
-use Rattle.basics.specs.Limits.{wide_places}
+use Rattle.basics.specs.Limits.{places}
 use Rattle.basics.proofs.Totals.{to_limit}
 use Rattle.counting.proofs.product.within_places.Statement.{statement}
 use Rattle.counting.proofs.product.within_places.Tie as tie
 
 pub within_places_spec : {M : Type 1} → statement M
-within_places_spec = tie.close (tie.spec (λ c κs. search rules) (λ c. ap (λ (s : ℕ). leb s wide_places) c.sum-to-limit.ensures ∙ to_limit (total c.before.before.args.counts.now) wide_places))
+within_places_spec = tie.close (tie.spec (λ c κs. search rules) (λ c. ap (λ (s : ℕ). leb s places) c.sum-to-limit.ensures ∙ to_limit (total c.before.before.args.counts.now) places))

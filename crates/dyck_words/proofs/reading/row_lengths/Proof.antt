@@ -4,17 +4,17 @@ use mathlib.Core.Path.{◌≡◌, refl, ◌∙◌}
 use Prim.Native.Nat.{◌+◌, ◌-◌, ◌≤◌}
 use native.Mathlib.Omega.{arith}
 use lib.ListN.{length, length-set, drop}
-use Rattle.basics.specs.Limits.{places}
+use Rattle.basics.specs.Limits.{longest_object}
 use Rattle.dyck_words.specs.Inner.Reading.{Told}
 use Rattle.dyck_words.proofs.RowTable.{told_none, told_more, told_all}
 use Rattle.dyck_words.proofs.reading.row_lengths.Statement.{statement}
 use Rattle.dyck_words.proofs.reading.row_lengths.Tie as tie
 
 abbrev invariant-loop : tie.invariant-loop
-invariant-loop object rows₀ d₀ rows d = (d ≤ places) × (d ≤ length object) × (length rows ≡ places + 1) × Told (drop (length object - d) object) d rows
+invariant-loop object rows₀ d₀ rows d = (d ≤ longest_object) × (d ≤ length object) × (length rows ≡ longest_object + 1) × Told (drop (length object - d) object) d rows
 
 abbrev decreases-loop : tie.decreases-loop
-decreases-loop object rows₀ d₀ rows d = places - d
+decreases-loop object rows₀ d₀ rows d = longest_object - d
 
 loop-again : tie.Need-loop-preserved invariant-loop decreases-loop
 loop-again c =

@@ -5,7 +5,7 @@ use Prim.Native.Nat.{◌≤◌}
 use native.Mathlib.Omega.{arith}
 use lib.ListN.{length}
 use borrow.Author.Rules.{rules}
-use Rattle.basics.specs.Limits.{places}
+use Rattle.basics.specs.Limits.{longest_object}
 use Rattle.dyck_words.specs.Trees.{word, parse}
 use Rattle.dyck_words.proofs.Facts.{dyck_cases}
 use Rattle.dyck_words.proofs.Theorem.{long}
@@ -14,7 +14,7 @@ use Rattle.dyck_words.proofs.stepping.step_word.Statement.{statement}
 use Rattle.dyck_words.proofs.stepping.step_word.Tie as tie
 
 -- the word fits into the table
-short : (c : tie.Start) → length c.args.object.now ≤ places
+short : (c : tie.Start) → length c.args.object.now ≤ longest_object
 short c = omega (arith, long c.args.n c.args.object.now c.requires.1)
 
 spelled : (c : tie.Start) → word (parse c.args.object.now) ≡ c.args.object.now

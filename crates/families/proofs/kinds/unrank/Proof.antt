@@ -3,9 +3,8 @@
 use mathlib.Core.Path.{refl, ◌∙◌}
 use lib.ListN.{get_or-map}
 use borrow.Author.Rules.{rules}
-use Rattle.basics.specs.Limits.{places}
 use Rattle.families.proofs.FamilyFacts.{has_arm, floor_positive}
-use Rattle.families.proofs.Dispatch.{handed, long_n, long_k, n_within, k_within, letters_fit}
+use Rattle.families.proofs.Dispatch.{handed, long_n, long_k, n_within, letters_fit}
 use Rattle.families.proofs.kinds.unrank.Statement.{statement}
 use Rattle.families.proofs.kinds.unrank.Tie as tie
 
@@ -34,7 +33,7 @@ unrank_spec =
     (λ c κs.
     let s = c.before.before.before.before in
     let t = long_k 5 _ _ s.args.object.now c.before.match.keys5 s.requires.0 s.requires.1.1.0 refl in
-    ((n_within _ _ _ t.bounds, (floor_positive _ _ s.requires.0 c.before.match.keys5, k_within s.args.f.n places _ _ t.bounds)), rw t.counted at s.requires.1.1.1))
+    ((n_within _ _ _ t.bounds, (floor_positive _ _ s.requires.0 c.before.match.keys5, t.short)), rw t.counted at s.requires.1.1.1))
     (λ c κs.
     let s = c.before.before.before.before in
     let t = handed 6 _ _ c.before.match.keys6 s.requires.0 in

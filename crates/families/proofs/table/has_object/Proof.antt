@@ -3,11 +3,14 @@
 use Prim.Native.Nat.{◌≤◌}
 use native.Mathlib.Nat.{mul-le-mul}
 use native.Mathlib.Omega.{arith}
+use lib.Dec.{leb}
 use borrow.Author.Rules.{rules}
+use borrow.Author.Tests.{leb-true}
 use Rattle.basics.specs.Limits.{places, floors}
+use Rattle.basics.proofs.Bools.{and-true}
 use Rattle.families.specs.Families.{row}
 use Rattle.families.proofs.FamilyFacts.{has_arm, floor_positive, floor_most}
-use Rattle.families.proofs.Dispatch.{handed, k_within, some_parts}
+use Rattle.families.proofs.Dispatch.{handed, some_parts}
 use Rattle.families.proofs.table.has_object.Statement.{statement}
 use Rattle.families.proofs.table.has_object.Tie as tie
 
@@ -32,7 +35,7 @@ mul-shared-out : tie.Need-overflow-mul-shared-out
 mul-shared-out c =
     let f = c.before.args.f in
     let t = handed 5 f _ c.match.keys5 c.before.requires in
-    let k_most : f.k ≤ places = k_within f.n places f.k places t.bounds in
+    let k_most : f.k ≤ places = leb-true f.k places (and-true (leb f.n places) (leb f.k places) t.bounds).1 in
     let most : f.floor ≤ floors = floor_most f _ c.before.requires c.match.keys5 in
     omega (arith, mul-le-mul k_most most)
 

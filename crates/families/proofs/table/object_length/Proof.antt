@@ -8,7 +8,7 @@ use native.Mathlib.Omega.{arith}
 use lib.ListN.{get_or-map}
 use borrow.Author.Tests.{leb-true}
 use borrow.Author.Rules.{rules}
-use Rattle.basics.specs.Limits.{wide_places, branches}
+use Rattle.basics.specs.Limits.{places, branches}
 use Rattle.basics.specs.Sums.{total}
 use Rattle.families.specs.Table.{lent}
 use Rattle.families.specs.Families.{row, object_length}
@@ -54,7 +54,7 @@ object_length_spec =
     returns
     (λ c.
     let t = handed 2 c.before.before.before.args.f (lent (map (λ x. x.now) c.before.before.before.args.t2)) c.before.match.keys2 c.before.before.before.requires in
-    let short = leb-true (total (lent (map (λ x. x.now) c.before.before.before.args.t2)).counts) wide_places (sum_fits t) in
+    let short = leb-true (total (lent (map (λ x. x.now) c.before.before.before.args.t2)).counts) places (sum_fits t) in
     (rw (← get_or-map (λ x. x.now) c.before.before.before.args.t2 0 _) at c.sum-to-limit.ensures) ∙ min-eq_left (omega arith) ∙ sym t.long)
     returns-3
     returns-4

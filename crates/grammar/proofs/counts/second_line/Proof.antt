@@ -14,7 +14,7 @@ use Rattle.grammar.specs.declared.Head.{Head}
 use Rattle.grammar.specs.Grammar.{Slip, fields, second_line, handed_on, with_counts, slip_with}
 use Rattle.grammar.specs.Inner.Reading.{parsed_as}
 use Rattle.grammar.specs.Sizes.{most_counts}
-use Rattle.grammar.proofs.LineLaws.{line_absent, line_unasked, line_present, line_width_lem, line_end, line-fields, by_line, at_most, at_most_malformed}
+use Rattle.grammar.proofs.LineLaws.{line_absent, line_unasked, line_present, line-width, line_end, line-fields, by_line, at_most, at_most_malformed}
 use Rattle.grammar.proofs.counts.second_line.Statement.{statement}
 use Rattle.grammar.proofs.counts.second_line.Tie as tie
 
@@ -45,7 +45,7 @@ returns-2 c = let e = c.before.before in (at_most_malformed most_counts, by e (l
 
 returns-3 : tie.Need-returns-3
 unfolding handed_on with_counts parsed_as
-returns-3 c = let e = c.before.before in (at_most_malformed most_counts, by e (line_present (m e) (x e) c.before.if1.false ∙ line_width_lem (m e) (x e) (λ q. omega arith)) refl)
+returns-3 c = let e = c.before.before in (at_most_malformed most_counts, by e (line_present (m e) (x e) c.before.if1.false ∙ line-width (m e) (x e) (λ q. omega arith)) refl)
 
 returns-4 : tie.Need-returns-4
 unfolding handed_on with_counts parsed_as

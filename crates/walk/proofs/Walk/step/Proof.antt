@@ -33,7 +33,7 @@ step_spec =
     tie.close
     (tie.spec
     (λ c κs. search rules)
-    (λ c. handed_back _ _ _ (c.missed-beyond.ensures c.before.before.before.before.args.self.len _ _ (omega arith)))
+    (λ c. handed_back _ _ _ (c.missed-beyond.ensures _ _ _ c.before.if1.true))
     array-borrow-prefix-bytes
     slice-aggregate-step-lent
     (λ c κs. search rules)
