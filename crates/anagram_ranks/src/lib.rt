@@ -1,5 +1,7 @@
 // The ranks of kinds 2 and 3, which need the counts: how many anagrams or permutations come before one, and the one of a rank. Called by
 // `families`, which shows what each function requires.
+#![tactic(auto)]
+
 ghost use Rattle.std.specs.Prelude.{◌≡◌, true, ◌≤◌, ◌<◌, ◌^◌, length};
 ghost use Rattle.basics.specs.Limits.{places};
 ghost use Rattle.basics.specs.Sums.{total};

@@ -1,5 +1,7 @@
 // The calls for programs in C and Rust: a family by value, the lists behind one reference, byte slices; a code out, values through a lent
 // number. include/arrangements.h declares them.
+#![tactic(auto)]
+
 ghost use Rattle.std.specs.Prelude.{◌≡◌, [], map, length};
 ghost use Rattle.listings.specs.Calls.{COUNT, FIRST, LAST, NEXT, PREVIOUS, RANK, UNRANK};
 ghost use Rattle.families.specs.Table.{lent};

@@ -1,5 +1,7 @@
 // The limits of paper 01's table of families, as specs/Limits.antt has them; sums of bytes, which the counts, the kinds and the questions share; and the
 // test of a product, for bytes that are many parts of one length.
+#![tactic(auto)]
+
 ghost use Rattle.std.specs.Prelude.{◌≡◌, ◌+◌, ◌*◌, ◌<◌, ◌^◌, min, eqb};
 ghost use Rattle.basics.specs.Sums.{total};
 

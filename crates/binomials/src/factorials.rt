@@ -3,7 +3,7 @@ ghost use Rattle.std.specs.Prelude.{◌≡◌, ◌-◌, ◌≤◌, slice_index};
 ghost use Rattle.binomials.specs.Inner.Factorials.{parts_of, last_columns};
 
 // Of a factorial: its odd part modulo 2^64, the inverse of that modulo 2^64, and how often 2 divides it.
-#[derive(Drop)]
+#[derive(Clone, Copy)]
 pub struct Parts(pub u64, pub u64, pub u64);
 
 pub fn parts_of(n: u64) -> Parts

@@ -1,5 +1,7 @@
 // Binomial coefficients without a table of them: n! / k! / (n - k)!, with the factors 2 counted apart and the odd parts divided modulo 2^64, where
 // an odd number has an inverse. Exact wherever the coefficient is below 2^64.
+#![tactic(auto)]
+
 ghost use Rattle.std.specs.Prelude.{◌≡◌, ◌*◌, ◌%◌, ◌^◌, ◌<◌, ◌≤◌, nat_lt};
 ghost use Rattle.basics.specs.Limits.{places};
 ghost use Rattle.numbers.specs.Numbers.{choose};

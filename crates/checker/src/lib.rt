@@ -1,5 +1,7 @@
 // Checking a list of objects against the listing: accepted, or a place that is wrong. No public function has a `requires`: any family, lists, number of
 // entries and bytes are answered. It reads the entries once, beside one object that NEXT takes along, and counts nothing but entries.
+#![tactic(auto)]
+
 ghost use Rattle.std.specs.Prelude.{◌≡◌, map, ◌*◌, length};
 ghost use Rattle.listings.specs.Calls.{MEASURED};
 ghost use Rattle.listings.specs.Places.{First};
@@ -13,7 +15,7 @@ use basics::LONGEST_OBJECT;
 use families::{Family, Length, Lists, Stepped, Written};
 
 // What a check answers: the entries are the listing, or this place is wrong, from 0, or the number of the question missed.
-#[derive(Drop)]
+#[derive(Clone, Copy)]
 pub enum Checked {
     Accepted,
     Wrong(u64),
@@ -21,7 +23,7 @@ pub enum Checked {
 }
 
 // The first place at which the entries differ from the listing, if there is one.
-#[derive(Drop)]
+#[derive(Clone, Copy)]
 enum Difference {
     None,
     At(u64),

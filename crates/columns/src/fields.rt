@@ -8,7 +8,7 @@ pub const WIDTH: usize = 4;
 
 pub const LARGEST: usize = 9999;
 
-#[derive(Drop)]
+#[derive(Clone, Copy)]
 pub enum Value {
     Number(u64),
     Bad,

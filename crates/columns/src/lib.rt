@@ -1,4 +1,6 @@
 // Numbers and words written in columns. Each writer puts its bytes at a place and answers the place behind them.
+#![tactic(auto)]
+
 ghost use Rattle.std.specs.Prelude.{◌≡◌, ◌∷◌, [], ◌+◌, ◌≤◌, length, replicate};
 ghost use Rattle.columns.specs.Columns.{blank, column, justified};
 ghost use Rattle.columns.specs.Inner.Writing.{Wrote};

@@ -1,6 +1,8 @@
 // The answers about the counts of paper 01's families: each exact, or too large. They answer any arguments: those outside the limits of the
 // paper's table by a case of their own. `catalan_that_fits` and `derangement_that_fits`, for ranks, answer a plain number, and 0 where it
 // doesn't fit.
+#![tactic(auto)]
+
 ghost use Rattle.std.specs.Prelude.{◌≡◌, ◌&&◌, cond, leb};
 ghost use Rattle.basics.specs.Limits.{places, branches, floors};
 ghost use Rattle.basics.specs.Sums.{total};
@@ -13,7 +15,7 @@ mod short;
 
 use basics::{BRANCHES, FLOORS, PLACES};
 
-#[derive(Drop)]
+#[derive(Clone, Copy)]
 pub enum Count {
     // The count, below 2^64.
     Exactly(u64),

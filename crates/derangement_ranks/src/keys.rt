@@ -5,7 +5,7 @@ ghost use Rattle.basics.specs.Limits.{places};
 ghost use Rattle.derangement_ranks.specs.Inner.Ranks.{earlier_by, Placed};
 
 // The key of a derangement, and its rank among those with that key.
-#[derive(Drop)]
+#[derive(Clone, Copy)]
 pub struct Place(pub u64, pub u64);
 
 // How many derangements of n places have a smaller key.

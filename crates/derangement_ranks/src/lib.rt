@@ -1,5 +1,7 @@
 // Ranks of kind 7, derangements of n places: the rank of a derangement, and the derangement of a rank, key by key. Called by `families`, which shows what
 // each function requires.
+#![tactic(auto)]
+
 ghost use Rattle.std.specs.Prelude.{◌≡◌, true, ◌≤◌, ◌<◌, ◌^◌, length};
 ghost use Rattle.basics.specs.Limits.{places};
 ghost use Rattle.numbers.specs.Numbers.{derangements_of};

@@ -1,5 +1,7 @@
 // Kind 7: derangements of n places, the permutations of 1 to n that leave no number at its place, over lent byte slices. Called by `families`, which shows
 // what each function requires. Nothing here needs counts.
+#![tactic(auto)]
+
 ghost use Rattle.std.specs.Prelude.{◌≡◌, true, ◌≤◌, length};
 ghost use Rattle.basics.specs.Limits.{places};
 ghost use Rattle.listings.specs.Calls.{NEXT, PREVIOUS, Said, act};

@@ -1,5 +1,7 @@
 // Ranks of kind 6, Dyck words with n of each: the rank of a word, and the word of a rank. Called by `families`, which shows what each
 // function requires.
+#![tactic(auto)]
+
 ghost use Rattle.std.specs.Prelude.{◌≡◌, true, ◌*◌, ◌≤◌, ◌<◌, ◌^◌, length};
 ghost use Rattle.basics.specs.Limits.{branches};
 ghost use Rattle.numbers.specs.Numbers.{catalan_of};

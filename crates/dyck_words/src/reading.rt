@@ -12,7 +12,7 @@ use basics::LONGEST_OBJECT;
 pub const ROWS: usize = LONGEST_OBJECT + 1;
 
 // How far a reader came, or that no word stands there.
-#[derive(Drop)]
+#[derive(Clone, Copy)]
 pub enum Read {
     To(usize),
     Broken,

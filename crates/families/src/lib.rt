@@ -1,5 +1,7 @@
 // The seven calls on families of objects. No function has a `requires`: any family, any lists and buffers of any length are answered, or
 // refused by the number of the first question that they miss, and a refusal leaves every byte.
+#![tactic(auto)]
+
 ghost use Rattle.std.specs.Prelude.{◌≡◌, map, []};
 ghost use Rattle.listings.specs.Calls.{COUNT, FIRST, LAST, NEXT, PREVIOUS, RANK, UNRANK, Said, first_no};
 ghost use Rattle.listings.specs.Steps.{step_as};
@@ -24,7 +26,7 @@ use table::Size;
 // "A family is passed by value: its kind, n and k, each an unsigned 64-bit number." "A family gains a floor", which every part of kind 5 has at least.
 // "A family says edition 1 or 2", by which kind 4 is ordered.
 #[repr(C)]
-#[derive(Drop)]
+#[derive(Clone, Copy)]
 pub struct Family {
     pub kind: u64,
     pub n: u64,
@@ -37,28 +39,28 @@ pub struct Family {
 pub type Lists<'a> = [&'a [u8]; 1];
 
 // What COUNT answers: the number of objects, or the number of the question missed.
-#[derive(Drop)]
+#[derive(Clone, Copy)]
 pub enum Counted {
     Objects(u64),
     Refused(u8),
 }
 
 // What RANK answers.
-#[derive(Drop)]
+#[derive(Clone, Copy)]
 pub enum Ranked {
     Rank(u64),
     Refused(u8),
 }
 
 // What FIRST, LAST and UNRANK answer.
-#[derive(Drop)]
+#[derive(Clone, Copy)]
 pub enum Written {
     Done,
     Refused(u8),
 }
 
 // What NEXT and PREVIOUS answer.
-#[derive(Drop)]
+#[derive(Clone, Copy)]
 pub enum Stepped {
     Moved,
     End,
@@ -66,7 +68,7 @@ pub enum Stepped {
 }
 
 // How long the family's objects are, or the number of the question missed.
-#[derive(Drop)]
+#[derive(Clone, Copy)]
 pub enum Length {
     Bytes(u64),
     Refused(u8),

@@ -12,7 +12,7 @@ use crate::table::Size;
 use crate::{Family, Lists, kinds, table};
 
 // A call, with the rank that UNRANK is handed.
-#[derive(Drop)]
+#[derive(Clone, Copy)]
 pub enum Call {
     Count,
     First,
@@ -24,7 +24,7 @@ pub enum Call {
 }
 
 // Every question passed, or the number of the first that did not.
-#[derive(Drop)]
+#[derive(Clone, Copy)]
 pub enum Verdict {
     Pass,
     No(u8),

@@ -18,7 +18,7 @@ use counting::Count;
 const LAST_KIND: u64 = 7;
 
 // How a rank stands to a family's count: below it, not below it, or the count is not below 2^64.
-#[derive(Drop)]
+#[derive(Clone, Copy)]
 pub enum Size {
     Below,
     Beyond,

@@ -1,4 +1,6 @@
 // The slip's grammar, proved: the numbers of the first line, and for kind 2 the counts of the second.
+#![tactic(auto)]
+
 ghost use Rattle.std.specs.Prelude.{◌≡◌, ◌≤◌, length};
 ghost use Rattle.grammar.specs.Grammar.{slip_of};
 ghost use Rattle.grammar.specs.Inner.Reading.{parsed_as, AtMost};
@@ -13,7 +15,7 @@ pub use limits::{FAMILY_WIDTH, LONGEST_SLIP, MOST_COUNTS};
 use lines::{First, number_at};
 
 // The numbers of a slip's first line; start is the number that the first object gets, 0 or 1.
-#[derive(Drop)]
+#[derive(Clone, Copy)]
 pub struct Head {
     pub kind: u64,
     pub n: u64,
@@ -22,7 +24,7 @@ pub struct Head {
 }
 
 // A well-formed slip: its numbers, and how many counts stand in the buffer; or a malformed one.
-#[derive(Drop)]
+#[derive(Clone, Copy)]
 pub enum Parsed {
     Slip(Head, usize),
     Malformed,

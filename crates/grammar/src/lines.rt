@@ -9,7 +9,7 @@ use crate::limits::{FAMILY_WIDTH, FIELD_WIDTH, HEAD_WIDTH};
 use columns::fields::{Value, field};
 
 // A first line that ends as a slip's may: the number that the first object gets, and where the rest begins.
-#[derive(Drop)]
+#[derive(Clone, Copy)]
 pub enum First {
     Line(u8, usize),
     Malformed,

@@ -1,5 +1,7 @@
 // Kind 5: partitions of the number n into k parts, each at least a floor, over lent byte slices. Called by `families`,
 // which shows what each function requires. The steps need no counts.
+#![tactic(auto)]
+
 ghost use Rattle.std.specs.Prelude.{◌≡◌, true, ◌*◌, ◌≤◌, ◌<◌, length};
 ghost use Rattle.basics.specs.Limits.{places};
 ghost use Rattle.numbers.specs.Numbers.{parts_from};

@@ -1,5 +1,7 @@
 // Jump by a signed distance: the object d places on or back in the listing, or END. No public function has a `requires`: any family, lists,
 // distance and bytes are answered, and nothing overflows, not for the smallest d and not for ranks up to 2^64 - 1.
+#![tactic(auto)]
+
 ghost use Rattle.std.specs.Prelude.{◌≡◌, true, false, map, ◌^◌, pos, negsuc, length};
 ghost use Rattle.std.proofs.Math.Option.{none};
 ghost use Rattle.std.specs.Int.Signed.{non_neg};
@@ -15,7 +17,7 @@ ghost use Rattle.jump.specs.Inner.Goals.{goal_as};
 use families::{Family, Lists, Ranked, Written};
 
 // What a jump answers.
-#[derive(Drop)]
+#[derive(Clone, Copy)]
 pub enum Jumped {
     Written,
     End,
@@ -23,7 +25,7 @@ pub enum Jumped {
 }
 
 // A rank below 2^64 to go to, or none.
-#[derive(Drop)]
+#[derive(Clone, Copy)]
 enum Goal {
     At(u64),
     Off,

@@ -1,4 +1,6 @@
 // What every kind of family shares in code: the answer of a step, the parts of an object that start over, and whether two objects are the same.
+#![tactic(auto)]
+
 ghost use Rattle.std.specs.Prelude.{◌≡◌, ◌+◌, ◌≤◌, length, replicate, take};
 ghost use Rattle.basics.specs.Limits.{longest_object};
 ghost use Rattle.basics.specs.Sums.{range};
@@ -7,7 +9,7 @@ ghost use Rattle.listings.specs.Bytes.{same as same_bytes};
 use basics::LONGEST_OBJECT;
 
 // What NEXT and PREVIOUS answer: the object was replaced by its neighbour, or there is none and no byte changed.
-#[derive(Drop)]
+#[derive(Clone, Copy)]
 pub enum Step {
     Moved,
     End,

@@ -1,6 +1,8 @@
 // The number of partitions of n into exactly k parts, each at least a floor, for all within the places. A number is named by e = n - k, what is left when each part has one, and its
 // column k. Only the even columns are stored, from e = k - 1 on: with more parts than e it makes no difference how many there are. A number of an odd
 // column is the difference of two of the next.
+#![tactic(auto)]
+
 ghost use Rattle.std.specs.Prelude.{◌≡◌, ◌+◌, ◌*◌, ◌%◌, ◌≤◌, ◌<◌};
 ghost use Rattle.basics.specs.Limits.{places};
 ghost use Rattle.numbers.specs.Numbers.{parts_from, partitions_of};

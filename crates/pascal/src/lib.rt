@@ -1,5 +1,7 @@
 // What COUNT answers for subsets: out of paper 01's constant table, and beyond its last row by additions. Today's compiler writes a const out on
 // the stack where it is used, so that a call uses it once and lends it.
+#![tactic(auto)]
+
 ghost use Rattle.std.specs.Prelude.{◌≡◌, ◌≤◌, ◌<◌, ◌^◌};
 ghost use Rattle.basics.specs.Limits.{places};
 ghost use Rattle.numbers.specs.Numbers.{choose};

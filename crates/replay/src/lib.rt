@@ -1,5 +1,7 @@
 // Demand 3 of running code: a whole list of calls on one family, one buffer and unchanged lists, with a record of every answer and of the
 // bytes after every call, which is the marker's run.
+#![tactic(auto)]
+
 ghost use Rattle.std.specs.Prelude.{◌≡◌, ◌++◌, map, ◌+◌, ◌*◌, ◌≤◌, length, take};
 ghost use Rattle.families.specs.Table.{lent};
 ghost use Rattle.families.specs.Calls.{respond, run as heard};
@@ -10,7 +12,7 @@ ghost use Rattle.replay.specs.Record.{buffers, kept, Outcome, outcome};
 use families::{Family, Lists, codes};
 
 // The calls were run, or a buffer or a code didn't fit and nothing was touched.
-#[derive(Drop)]
+#[derive(Clone, Copy)]
 pub enum Replayed {
     Ran,
     Misfit,

@@ -8,7 +8,7 @@ ghost use Rattle.set_partitions.specs.Inner.Keys.{earlier_by, Placed};
 ghost use Rattle.set_partition_ranks.specs.Inner.Ranks.{back_by};
 
 // The key of a partition, and its rank among those with that key.
-#[derive(Drop)]
+#[derive(Clone, Copy)]
 pub struct Place(pub u64, pub u64);
 
 // How many partitions come before those with a key.

@@ -1,5 +1,7 @@
 // Ranks of kind 4, partitions of n models into k blocks: the rank of a partition, and the partition of a rank, in the order of either edition. Called by
 // `families`, which shows what each function requires.
+#![tactic(auto)]
+
 ghost use Rattle.std.specs.Prelude.{◌≡◌, true, ◌≤◌, ◌<◌, ◌^◌, length, take};
 ghost use Rattle.basics.specs.Limits.{places, longest_object};
 ghost use Rattle.basics.specs.Sums.{range};

@@ -1,5 +1,7 @@
 // Kind 4: partitions of n models into k blocks, over lent byte slices, in the order of either edition: a number that isn't 2 is read as 1. Called by
 // `families`, which shows what each function requires. Nothing here needs counts.
+#![tactic(auto)]
+
 ghost use Rattle.std.specs.Prelude.{◌≡◌, true, ◌≤◌, length};
 ghost use Rattle.basics.specs.Limits.{places};
 ghost use Rattle.listings.specs.Calls.{NEXT, PREVIOUS, Said, act};

@@ -13,14 +13,14 @@ use crate::ends::{opens_late, rest_block, write_end};
 use listings::Step;
 
 // Where a key can move: nowhere, or at a place, behind models in the blocks 1 to a number.
-#[derive(Drop)]
+#[derive(Clone, Copy)]
 enum Spot {
     Nowhere,
     At(usize, u8),
 }
 
 // The block of a model whose key has moved, and how many blocks those in front of it are in.
-#[derive(Drop)]
+#[derive(Clone, Copy)]
 struct Moved(pub u8, pub u8);
 
 // One of two numbers: where nobody can foresee which, both are worked out and the processor has nothing to guess.

@@ -1,4 +1,6 @@
 // The program's text, proved: a slip read, and the listing of its family written, numbered as the slip says.
+#![tactic(auto)]
+
 ghost use Rattle.std.specs.Prelude.{◌≡◌, length};
 ghost use Rattle.slip.specs.Rendering.{Renders};
 ghost use Rattle.grammar.specs.Sizes.{most_counts};
@@ -11,7 +13,7 @@ use grammar::{MOST_COUNTS, Parsed};
 pub use limits::LARGEST;
 
 // The text is so many bytes at the start of the buffer; or the buffer is shorter than the longest text, and left as it was.
-#[derive(Drop)]
+#[derive(Clone, Copy)]
 pub enum Rendered {
     Text(usize),
     Short,

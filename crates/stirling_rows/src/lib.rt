@@ -1,5 +1,7 @@
 // The Stirling numbers of the second kind up to the last row whose every number is below 2^64: literals, read one at a time. The rank of a small
 // partition reads a few of them, and working out all of them costs more.
+#![tactic(auto)]
+
 ghost use Rattle.std.specs.Prelude.{◌≡◌, ◌-◌, ◌≤◌, ◌<◌};
 ghost use Rattle.numbers.specs.Numbers.{stirling_of};
 ghost use Rattle.stirling_rows.specs.Inner.Stored.{last_row};
@@ -29,7 +31,7 @@ pub fn entry(n: u64, k: u64) -> u64
 }
 
 // The numbers of partitions of n models into k - 1 blocks and into k.
-#[derive(Drop)]
+#[derive(Clone, Copy)]
 pub struct Pair(pub u64, pub u64);
 
 // What a rank reads of one model more: both numbers at once, the place worked out once. All but one block: two of the models share one.

@@ -1,5 +1,7 @@
 // Stirling numbers of the second kind, below 2^64, past the rows that are stored. A band of their triangle, worked out once a call and lent, has every
 // number that the ranks of one family read; one number alone takes one row.
+#![tactic(auto)]
+
 ghost use Rattle.std.specs.Prelude.{◌≡◌, ℕ, suc, ◌+◌, ◌-◌, ◌*◌, ◌≤◌, ◌<◌, ◌^◌, ltb};
 ghost use Rattle.basics.specs.Limits.{places};
 ghost use Rattle.numbers.specs.Numbers.{stirling_of};

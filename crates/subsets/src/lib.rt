@@ -1,4 +1,6 @@
 // Kind 1: subsets of k out of 1 to n, over lent byte slices. Called by `families`, which shows what each function requires.
+#![tactic(auto)]
+
 ghost use Rattle.std.specs.Prelude.{◌≡◌, true, ◌≤◌, ◌<◌, ◌^◌, length};
 ghost use Rattle.basics.specs.Limits.{places};
 ghost use Rattle.numbers.specs.Numbers.{choose};

@@ -46,7 +46,7 @@ pub fn number_to_lower(object: &[u8]) -> usize
 }
 
 // The largest number below n out of which at most rank subsets of k can be made, and how many can.
-#[derive(Drop)]
+#[derive(Clone, Copy)]
 pub struct Top(pub u64, pub u64);
 
 pub fn largest_top(rank: u64, n: u64, k: u64) -> Top

@@ -3,7 +3,7 @@ use families::{Counted, Family, Lists, Ranked, Stepped, Written};
 use test_support::{number, text, wide};
 
 // What any call answers.
-#[derive(Drop)]
+#[derive(Clone, Copy)]
 pub enum Heard {
     Number(u64),
     Written,

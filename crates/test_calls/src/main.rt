@@ -25,6 +25,8 @@
 // edition 2 and whose numbers are worked out by its rule. So are the answers to exercise 5.96 of 000, which prints none, by the rule of 004 3.4.
 // Letters a, b, .. are written 1, 2, ..; N is 1 and E is 0. In 5.38 the source prints bdcacbc and then works with the tails accb and ccb, that is
 // with bdcaccb. A list is FIRST, and NEXT of each object that the source lists.
+#![tactic(auto)]
+
 ghost use Rattle.std.specs.Prelude.{◌≤◌, length};
 
 mod calls;

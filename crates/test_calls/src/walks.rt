@@ -10,7 +10,7 @@ const TO_THE_END: u64 = 5000;
 const CLOSED: u64 = 300;
 
 // The calls by which a walk begins and goes on, and how many objects it meets at most.
-#[derive(Drop)]
+#[derive(Clone, Copy)]
 pub struct Route {
     pub start: u8,
     pub step: u8,

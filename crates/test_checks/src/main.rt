@@ -17,6 +17,8 @@
 // `below_64_bits`, `beyond_64_bits`: the first entries of listings that no list is long enough for. `other_orders`: the right objects in
 // another order, and listings of other families. `editions`: the same of kind 4 and its editions. `derangements`: kind 7. `refusals`: each
 // question missed, and others behind it; question 5, which isn't put.
+#![tactic(auto)]
+
 ghost use Rattle.std.specs.Prelude.{◌≤◌, length};
 ghost use Rattle.io.specs.Counts.{IsPrefixLen};
 

@@ -6,6 +6,8 @@
 // The expected text, `stdout`, is written by tests/expected/counts.py: math.comb and math.factorial for binomials, factorials and Catalan
 // numbers, factorials for multinomials, the alternating sum over binomials for Stirling numbers and derangements (not their recursion), and for
 // partitions one part size after the other from the floor up, counting the parts. Of these the sums over k are held to Euler's pentagonal recurrence.
+#![tactic(auto)]
+
 ghost use Rattle.std.specs.Prelude.{◌≤◌, ◌+◌};
 ghost use Rattle.basics.specs.Limits.{places};
 

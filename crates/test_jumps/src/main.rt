@@ -13,6 +13,8 @@
 // `small_families`: kinds 1 to 6, from each object to each other and beyond both ends. `both_ends`: the smallest and the largest distance.
 // `large_families`: up to 2^64 - 1 objects and the longest there are. `refusals`: each question missed, and others behind it. `floors`: kind 5
 // with floors, and floors that are refused, on every kind. `editions`: the same of kind 4 and its editions. `derangements`: kind 7.
+#![tactic(auto)]
+
 use families::{Family, Lists};
 use libc::STDOUT_FILENO;
 use std::num::{wrapping_add_u64, wrapping_sub_u64};

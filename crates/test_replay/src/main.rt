@@ -11,6 +11,8 @@
 // object, and calls in no order. `refusals`: lists of calls in which each question is missed. `large_families`: at both edges of 2^64 and at
 // 80 places. `misfits`: codes that are no call's, and buffers of another length. `floors`: kind 5 with floors, and floors that are refused, on
 // every kind. `editions`: the same of kind 4 and its editions. `derangements`: kind 7.
+#![tactic(auto)]
+
 ghost use Rattle.std.specs.Prelude.{◌≤◌, length};
 
 use basics::LONGEST_OBJECT;

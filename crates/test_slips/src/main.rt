@@ -4,6 +4,8 @@
 // The expected text, `stdout`, begins with what was printed for the same slips when numbers started at 0 (tests/expected/slips_from_0.txt).
 // The rest is written by tests/expected/slips.py, which reads the same slips and has Python's formatting. Its listings of at most 100
 // objects of 8 bytes are strings filtered by the table's words and sorted by a comparison; longer ones follow Loehr's recursion.
+#![tactic(auto)]
+
 ghost use Rattle.std.specs.Prelude.{◌≡◌, ◌≤◌, ◌+◌, length};
 ghost use Rattle.grammar.specs.Sizes.{longest_slip};
 ghost use Rattle.slip.specs.Sizes.{largest};

@@ -1,12 +1,14 @@
 // What the test programs share: files of cases, with their lines, sections, words and lists; printed numbers, objects and labelled lines; a
 // digest of bytes. A line of cases is a label, a colon, and sections with strokes between them; one blank stands between any two words.
+#![tactic(auto)]
+
 ghost use Rattle.std.specs.Prelude.{◌≤◌, length};
 ghost use Rattle.io.specs.Counts.{IsPrefixLen};
 
 use libc::STDOUT_FILENO;
 
 // A number read from a line, and where the next word begins.
-#[derive(Drop)]
+#[derive(Clone, Copy)]
 pub struct Read {
     pub value: u64,
     pub end: usize,

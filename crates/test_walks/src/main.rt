@@ -19,6 +19,8 @@
 // steps.
 // `large_families`: at both edges of 2^64 and at 80 places. `floors`: kind 5 with floors, and floors that are refused, on every kind.
 // `editions`: the same of kind 4 and its editions. `derangements`: kind 7.
+#![tactic(auto)]
+
 ghost use Rattle.std.specs.Prelude.{◌≡◌, ◌≤◌, length, take};
 
 use basics::LONGEST_OBJECT;

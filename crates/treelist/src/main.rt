@@ -1,5 +1,7 @@
 // `treelist`: reads one slip from standard input and prints the listing of its family. What it prints is made, and proved, in `slip`.
 // A program has no exit status: a read or a write that fails is said on standard error, where nothing else is said.
+#![tactic(auto)]
+
 ghost use Rattle.std.specs.Prelude.{◌≡◌, ℕ, ◌+◌, ◌≤◌, length};
 ghost use Rattle.grammar.specs.Sizes.{longest_slip};
 ghost use Rattle.slip.specs.Sizes.{largest};
@@ -26,7 +28,7 @@ fn room_to_write() -> [u8; LARGEST]
 }
 
 // So many bytes of input, at the start of the buffer; or a read failed.
-#[derive(Drop)]
+#[derive(Clone, Copy)]
 enum Input {
     Bytes(usize),
     Failed,
@@ -52,7 +54,7 @@ fn read_input(buf: &mut [u8]) -> Input
 }
 
 // All was written; or a write failed; or one took nothing, of which the system says no more.
-#[derive(Drop)]
+#[derive(Clone, Copy)]
 enum Output {
     Whole,
     Failed,

@@ -1,5 +1,7 @@
 // A walk that knows its number: a family, the bytes of an object and its rank, by value. A step moves the bytes as NEXT or PREVIOUS does and
 // counts beside it, so no rank is worked out. No public function has a `requires`: any walk, also one that nobody started, is answered.
+#![tactic(auto)]
+
 ghost use Rattle.std.specs.Prelude.{◌≡◌, Bool, map, ℕ, ◌<◌, ◌^◌, length};
 ghost use Rattle.std.proofs.Math.Option.{some};
 ghost use Rattle.basics.specs.Limits.{longest_object};
@@ -18,7 +20,7 @@ use basics::LONGEST_OBJECT;
 use families::{Call, Family, Lists, Ranked, Stepped, Verdict, codes};
 
 // The way a step goes: as NEXT or as PREVIOUS.
-#[derive(Drop)]
+#[derive(Clone, Copy)]
 pub enum Way {
     Forth,
     Back,
@@ -26,7 +28,7 @@ pub enum Way {
 
 // The bytes kept (the first len of the array), their family and the number kept. The array stands first, so that a copy of the walk and a
 // copy of its array are made of the same words.
-#[derive(Drop)]
+#[derive(Clone, Copy)]
 pub struct Walk {
     pub bytes: [u8; LONGEST_OBJECT],
     pub family: Family,
@@ -35,21 +37,21 @@ pub struct Walk {
 }
 
 // Where a walk starts: what RANK answers, and the walk.
-#[derive(Drop)]
+#[derive(Clone, Copy)]
 pub struct Started {
     pub walk: Walk,
     pub answer: Ranked,
 }
 
 // A step: what NEXT or PREVIOUS answers, and the walk.
-#[derive(Drop)]
+#[derive(Clone, Copy)]
 pub struct Stride {
     pub walk: Walk,
     pub answer: Stepped,
 }
 
 // A step on lent bytes: the answer, and the number then.
-#[derive(Drop)]
+#[derive(Clone, Copy)]
 pub struct Numbered {
     pub answer: Stepped,
     pub number: u64,
