@@ -34,8 +34,9 @@ module _ {A : Type 0} (t : A → Bool) where
   kept_of (x ∷ l) m =
       ⊎_elim (λ (e, h). (Memᴰ.head e, subst (λ z. t z ≡ true) (sym e) h)) (λ k. let r = kept_of l k in (Memᴰ.tail r.0, r.1)) (in_either (t x) x m)
 
-  kept_in : {l : List A} {y : A} → Memᴰ y l → t y ≡ true → Memᴰ y (kept t l)
+  kept_in : {y : A} {l : List A} → Memᴰ y l → t y ≡ true → Memᴰ y (kept t l)
   unfolding kept
+  kept_in {l = []} m h = elim m [ ]
   kept_in {l = x ∷ l} (Memᴰ.head e) h = subst (λ z. Memᴰ z (kept t (x ∷ l))) (sym e) (in_head (t x) x (kept t l) (subst (λ z. t z ≡ true) e h))
   kept_in {l = x ∷ l} (Memᴰ.tail m) h = in_tail (t x) x (kept_in m h)
 

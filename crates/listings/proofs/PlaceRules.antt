@@ -113,10 +113,14 @@ module _ {A C : Type 0} (g : C → List A) where
   pub last-flat_map : {cs : List C} {c : C} {x : A} → Last cs c → Last (g c) x → Last (flat_map g cs) x
   last-flat_map {cs} s k = last-from cs s.place s.here s.final k
 
-  pub follows_flat_map_inside : {cs : List C} {c : C} {x y : A} → Memᴰ c cs → Follows (g c) x y → Follows (flat_map g cs) x y
+  -- the next lemma, with `c` declared before `cs`, as its recursion needs
+  inside_from : {c : C} {x y : A} {cs : List C} → Memᴰ c cs → Follows (g c) x y → Follows (flat_map g cs) x y
   unfolding flat_map
-  follows_flat_map_inside (Memᴰ.head e) s = follows_left _ (rw e at s)
-  follows_flat_map_inside (Memᴰ.tail {x = d} m) s = follows_right (g d) (follows_flat_map_inside m s)
+  inside_from (Memᴰ.head e) s = follows_left _ (rw e at s)
+  inside_from (Memᴰ.tail {x = d} m) s = follows_right (g d) (inside_from m s)
+
+  pub follows_flat_map_inside : {cs : List C} {c : C} {x y : A} → Memᴰ c cs → Follows (g c) x y → Follows (flat_map g cs) x y
+  follows_flat_map_inside m s = inside_from m s
 
   seam_from : (cs : List C) (p : ℕ) {c d : C} {x y : A} → At cs c p → At cs d (suc p) → Last (g c) x → First (g d) y → Follows (flat_map g cs) x y
   unfolding flat_map

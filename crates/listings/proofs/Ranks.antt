@@ -45,7 +45,7 @@ module _ {A : Type 0} {object : A → Bool} {lt : A → A → Bool} (order : Str
   unfolding count_before
   rank_from [] r {x} up objects h = absurd (none-ne-some x h)
   rank_from (a ∷ l) zero {x} up objects h =
-      rw (← some-injective a x h) (none_before lt a (a ∷ l) (λ y k. fails (lt y a) (head_least up objects k)))
+      subst (λ z. count_before lt z (a ∷ l) ≡ 0) (some-injective a x h) (none_before lt a (a ∷ l) (λ y k. fails (lt y a) (head_least up objects k)))
   rank_from (a ∷ l) (suc r) {x} (more before rest) objects h =
       rw (before x (at_member l r h)) (omega (arith, rank_from l r rest (λ z k. objects z (Memᴰ.tail k)) h))
 
