@@ -12,7 +12,7 @@ rank_spec =
     (tie.spec
     (λ c κs. search rules)
     (λ c. search rules)
-    (λ c. sym (ap length c.before.copied.ensures.1))
+    (λ c. sym (ap length c.copied-space.ensures.1))
     (λ c κs. search rules)
-    (λ c κs. let p = c.before.before.before.before.before.requires in rw c.before.before.copied.ensures.1 (p.1.0, (p.1.1.0, c.All-words.ensures)))
-    (λ c. rw (← c.before.before.before.before.copied.ensures.1) c.before.rank-of.ensures))
+    (λ c κs. let p = c.requires in rw c.copied-space.ensures.1 (p.1.0, (p.1.1.0, c.all_words.ensures)))
+    (λ c. rw (← c.copied-space.ensures.1) c.rank_of.ensures))

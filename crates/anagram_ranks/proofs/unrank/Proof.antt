@@ -13,8 +13,8 @@ unrank_spec =
     (tie.spec
     (λ c κs. search rules)
     (λ c. search rules)
-    (λ c. sym (ap length c.before.copied.ensures.1))
+    (λ c. sym (ap length c.copied-space.ensures.1))
     (λ c κs. search rules)
-    (λ c κs. let p = c.before.before.before.before.before.before.requires in rw c.before.before.before.copied.ensures.1 (p.1.0, (p.0, (c.before.All-words.ensures, omega arith))))
+    (λ c κs. let p = c.requires in rw c.copied-space.ensures.1 (p.1.0, (p.0, (c.all_words.ensures, omega arith))))
     (λ c. search rules)
-    (λ c. rw (← c.before.before.before.before.before.before.before.copied.ensures.1) c.before.before.before.write_word.ensures))
+    (λ c. rw (← c.copied-space.ensures.1) c.write_word.ensures))

@@ -10,10 +10,10 @@ use borrow.Author.Rules.{rules}
 use Rattle.anagrams.proofs.first.Statement.{statement}
 use Rattle.anagrams.proofs.first.Tie as tie
 
-abbrev invariant-loop : tie.invariant-loop
+abbrev invariant-loop : tie.invariant-loop-i
 invariant-loop counts object₀ at₀ i₀ object at i = Written counts object at i
 
-abbrev decreases-loop : tie.decreases-loop
+abbrev decreases-loop : tie.decreases-loop-i
 decreases-loop counts object₀ at₀ i₀ object at i = length counts - i
 
 pub first_spec : {M : Type 1} → statement M
@@ -22,18 +22,18 @@ first_spec =
     (tie.spec
     invariant-loop
     decreases-loop
-    (λ c. written_none _ _ c.before.before.requires.1)
+    (λ c. written_none _ _ c.requires.1)
     (λ c. omega arith)
-    (λ c. omega (arith, c.shared-slice-known2.given c.before.before.loop.i))
-    (λ c. omega (arith, total-drop c.before.before.before.before.before.args.counts.now c.before.before.loop.i c.before.loop-test.true))
+    (λ c. omega (arith, c.shared_slice_known-in-loop-i-1.given c.loop-i.i))
+    (λ c. omega (arith, total-drop c.args.counts.now c.loop-i.i c.loop-i-test.true))
     (λ c. omega arith)
     (λ c. omega arith)
-    (λ c. omega (arith, total-drop c.before.before.before.before.before.args.counts.now c.before.before.loop.i c.before.loop-test.true))
+    (λ c. omega (arith, total-drop c.args.counts.now c.loop-i.i c.loop-i-test.true))
     (λ c. omega arith)
     (λ c. omega arith)
     (λ c κs. search rules)
     (λ c. omega arith)
     (λ c. omega arith)
-    (λ c. written_more _ _ _ _ _ c.before.before.before.before.before.loop-test.true c.before.before.before.before.before.before.loop.invariant c.before.before.fill-with.ensures)
-    (λ c. c.before.loop.invariant.long ∙ sym c.before.before.before.before.requires.1)
-    (λ c. written_all _ _ _ _ c.loop-test.false c.before.loop.invariant))
+    (λ c. written_more _ _ _ _ _ c.loop-i-test.true c.loop-i.invariant c.fill_with.ensures)
+    (λ c. c.loop-i.invariant.long ∙ sym c.requires.1)
+    (λ c. written_all _ _ _ _ c.loop-i-test.false c.loop-i.invariant))

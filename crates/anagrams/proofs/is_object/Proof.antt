@@ -12,6 +12,6 @@ is_object_spec =
     (tie.spec
     (λ c κs. search rules)
     (λ c. search rules)
-    (λ c. sym (ap length c.before.copied.ensures.1))
+    (λ c. sym (ap length c.copied-space.ensures.1))
     (λ c κs. search rules)
-    (λ c. rw (← c.before.before.before.copied.ensures.1) c.before.spend-all.ensures))
+    (λ c. rw (← c.copied-space.ensures.1) c.spend_all.ensures))

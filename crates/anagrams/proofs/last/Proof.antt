@@ -12,4 +12,4 @@ last_spec =
     (λ c κs. search rules)
     (λ c κs. search rules)
     (λ c. search rules)
-    (λ c. rw c.before.before.turn-round.ensures (first_turned _ _ c.before.before.before.before.before.before.first.ensures)))
+    (λ c. rw c.turn_round.ensures (first_turned _ _ c.first.ensures)))

@@ -5,14 +5,14 @@ use Rattle.arrangements.proofs.Telling.{telling_check}
 use Rattle.arrangements.proofs.arrangement_check.Statement.{statement}
 use Rattle.arrangements.proofs.arrangement_check.Tie as tie
 
-returns : tie.Need-returns
-returns c = let k = c.before.before in telling_check k.before.by_value.ensures _ _ _ _ c.enum_told.given.1 k.check.ensures
+returns : tie.Need-returns-in-Accepted
+returns c = let k = c.before in telling_check k.by_value.ensures _ _ _ _ c.in-Accepted.is k.check-answer.ensures
 
-returns-2 : tie.Need-returns-2
-returns-2 c = let k = c.before.before.before in telling_check k.before.by_value.ensures _ _ _ k.before.before.before.args.place.now c.before.answer.given.1 k.check.ensures
+returns-2 : tie.Need-returns-in-Wrong
+returns-2 c = let k = c.before in telling_check k.by_value.ensures _ _ _ k.args.place.now c.in-Wrong.is k.check-answer.ensures
 
-returns-3 : tie.Need-returns-3
-returns-3 c = let k = c.before.before.before in telling_check k.before.by_value.ensures _ _ _ _ c.before.answer2.given.1 k.check.ensures
+returns-3 : tie.Need-returns-in-Refused
+returns-3 c = let k = c.before in telling_check k.by_value.ensures _ _ _ _ c.in-Refused.is k.check-answer.ensures
 
 pub arrangement_check_spec : {M : Type 1} → statement M
 arrangement_check_spec =

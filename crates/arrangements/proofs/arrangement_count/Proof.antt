@@ -10,12 +10,12 @@ use Rattle.arrangements.proofs.Telling.{answering, valuing, refusing}
 use Rattle.arrangements.proofs.arrangement_count.Statement.{statement}
 use Rattle.arrangements.proofs.arrangement_count.Tie as tie
 
-returns : tie.Need-returns
+returns : tie.Need-returns-in-Objects
 unfolding plain code_of value_of
-returns c = valuing c.before.before.before.before.before.args.value.now (ap counted_as c.before.answer.given.1) (answering c.before.before.before.before.by_value.ensures _ COUNT _ c.before.before.before.count.ensures)
+returns c = valuing c.args.value.now (ap counted_as c.in-Objects.is) (answering c.by_value.ensures _ COUNT _ c.count-answer.ensures)
 
-returns-2 : tie.Need-returns-2
-returns-2 c = refusing c.before.before.before.before.before.before.args.value.now (ap counted_as c.before.before.answer2.given.1) (answering c.before.before.before.before.before.by_value.ensures _ COUNT _ c.before.before.before.before.count.ensures) refl c.plain.ensures
+returns-2 : tie.Need-returns-in-Refused
+returns-2 c = refusing c.args.value.now (ap counted_as c.in-Refused.is) (answering c.by_value.ensures _ COUNT _ c.count-answer.ensures) refl c.plain.ensures
 
 pub arrangement_count_spec : {M : Type 1} → statement M
 arrangement_count_spec =

@@ -7,7 +7,7 @@ use Rattle.arrangements.proofs.arrangement_first.Statement.{statement}
 use Rattle.arrangements.proofs.arrangement_first.Tie as tie
 
 returns : tie.Need-returns
-returns c = telling c.before.before.before.before.before.before.by_value.ensures _ FIRST _ c.before.before.before.before.first.ensures c.before.written.ensures c.plain.ensures
+returns c = telling c.by_value.ensures _ FIRST _ c.first.ensures c.written.ensures c.plain.ensures
 
 pub arrangement_first_spec : {M : Type 1} → statement M
 arrangement_first_spec =

@@ -11,12 +11,12 @@ returns : tie.Need-returns
 returns c =
     let s = c.before.before.before.before.before.before.before.before in
     telling_jump
-    c.before.before.before.before.before.before.by_value.ensures
+    c.by_value.ensures
     _
     s.args.d
     _
-    (rw (to_z-of_z w64 s.args.d s.ranges.d) at c.before.before.before.before.jump.ensures)
-    c.before.code.ensures
+    (rw (to_z-of_z w64 s.args.d s.ranges.d) at c.jump.ensures)
+    c.code.ensures
     c.plain.ensures
 
 pub arrangement_jump_spec : {M : Type 1} → statement M

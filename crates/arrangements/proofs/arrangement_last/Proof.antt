@@ -7,7 +7,7 @@ use Rattle.arrangements.proofs.arrangement_last.Statement.{statement}
 use Rattle.arrangements.proofs.arrangement_last.Tie as tie
 
 returns : tie.Need-returns
-returns c = telling c.before.before.before.before.before.before.by_value.ensures _ LAST _ c.before.before.before.before.last.ensures c.before.written.ensures c.plain.ensures
+returns c = telling c.by_value.ensures _ LAST _ c.last.ensures c.written.ensures c.plain.ensures
 
 pub arrangement_last_spec : {M : Type 1} → statement M
 arrangement_last_spec =

@@ -7,7 +7,7 @@ use Rattle.arrangements.proofs.arrangement_next.Statement.{statement}
 use Rattle.arrangements.proofs.arrangement_next.Tie as tie
 
 returns : tie.Need-returns
-returns c = telling c.before.before.before.before.before.before.by_value.ensures _ NEXT _ c.before.before.before.before.next.ensures c.before.stepped.ensures c.plain.ensures
+returns c = telling c.by_value.ensures _ NEXT _ c.next.ensures c.stepped.ensures c.plain.ensures
 
 pub arrangement_next_spec : {M : Type 1} → statement M
 arrangement_next_spec =

@@ -11,12 +11,12 @@ use Rattle.arrangements.proofs.Telling.{valuing, refusing}
 use Rattle.arrangements.proofs.arrangement_object_length.Statement.{statement}
 use Rattle.arrangements.proofs.arrangement_object_length.Tie as tie
 
-returns : tie.Need-returns
+returns : tie.Need-returns-in-Bytes
 unfolding plain code_of value_of
-returns c = valuing c.before.before.before.before.before.args.value.now (ap length_as c.before.answer.given.1) (c.before.before.before.object-length.ensures ∙ ap (λ (l : Lent). measured c.before.before.before.before.before.args.f l) c.before.before.before.before.by_value.ensures)
+returns c = valuing c.args.value.now (ap length_as c.in-Bytes.is) (c.object_length-answer.ensures ∙ ap (λ (l : Lent). measured c.args.f l) c.by_value.ensures)
 
-returns-2 : tie.Need-returns-2
-returns-2 c = refusing c.before.before.before.before.before.before.args.value.now (ap length_as c.before.before.answer2.given.1) (c.before.before.before.before.object-length.ensures ∙ ap (λ (l : Lent). measured c.before.before.before.before.before.before.args.f l) c.before.before.before.before.before.by_value.ensures) refl c.plain.ensures
+returns-2 : tie.Need-returns-in-Refused
+returns-2 c = refusing c.args.value.now (ap length_as c.in-Refused.is) (c.object_length-answer.ensures ∙ ap (λ (l : Lent). measured c.args.f l) c.by_value.ensures) refl c.plain.ensures
 
 pub arrangement_object_length_spec : {M : Type 1} → statement M
 arrangement_object_length_spec =

@@ -7,7 +7,7 @@ use Rattle.arrangements.proofs.arrangement_previous.Statement.{statement}
 use Rattle.arrangements.proofs.arrangement_previous.Tie as tie
 
 returns : tie.Need-returns
-returns c = telling c.before.before.before.before.before.before.by_value.ensures _ PREVIOUS _ c.before.before.before.before.previous.ensures c.before.stepped.ensures c.plain.ensures
+returns c = telling c.by_value.ensures _ PREVIOUS _ c.previous.ensures c.stepped.ensures c.plain.ensures
 
 pub arrangement_previous_spec : {M : Type 1} → statement M
 arrangement_previous_spec =

@@ -7,7 +7,7 @@ use Rattle.arrangements.proofs.arrangement_unrank.Statement.{statement}
 use Rattle.arrangements.proofs.arrangement_unrank.Tie as tie
 
 returns : tie.Need-returns
-returns c = telling c.before.before.before.before.before.before.by_value.ensures _ (UNRANK c.before.before.before.before.before.before.before.before.args.rank) _ c.before.before.before.before.unrank.ensures c.before.written.ensures c.plain.ensures
+returns c = telling c.by_value.ensures _ (UNRANK c.args.rank) _ c.unrank.ensures c.written.ensures c.plain.ensures
 
 pub arrangement_unrank_spec : {M : Type 1} → statement M
 arrangement_unrank_spec =

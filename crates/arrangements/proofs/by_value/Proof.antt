@@ -6,4 +6,6 @@ use Rattle.arrangements.proofs.by_value.Statement.{statement}
 use Rattle.arrangements.proofs.by_value.Tie as tie
 
 pub by_value_spec : {M : Type 1} → statement M
-by_value_spec = tie.close (tie.spec (λ c. search rules) (λ c. rw (← get_or-map (λ x. x.now) c.before.args.lists.now 0 _)))
+by_value_spec = tie.close (tie.spec
+    (λ c. search rules)
+    (λ c. rw (← get_or-map (λ x. x.now) c.args.lists.now 0 _)))

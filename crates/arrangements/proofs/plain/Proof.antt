@@ -6,13 +6,16 @@ use Rattle.arrangements.proofs.Telling.{others}
 use Rattle.arrangements.proofs.plain.Statement.{statement}
 use Rattle.arrangements.proofs.plain.Tie as tie
 
-returns : tie.Need-returns
+returns : tie.Need-returns-then-code-eq20
 unfolding plain
-returns c = sym (ap plain c.if1.true)
+returns c = sym (ap plain c.if-code-eq20.true)
 
-returns-2 : tie.Need-returns-2
+returns-2 : tie.Need-returns-then-code-eq21
 unfolding plain
-returns-2 c = sym (ap plain c.if2.true)
+returns-2 c = sym (ap plain c.if-code-eq21.true)
 
 pub plain_spec : {M : Type 1} → statement M
-plain_spec = tie.close (tie.spec returns returns-2 (λ c. others _ c.before.if1.false c.if2.false))
+plain_spec = tie.close (tie.spec
+    returns
+    returns-2
+    (λ c. others _ c.if-code-eq20.false c.if-code-eq21.false))

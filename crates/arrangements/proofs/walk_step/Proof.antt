@@ -6,7 +6,7 @@ use Rattle.arrangements.proofs.walk_step.Statement.{statement}
 use Rattle.arrangements.proofs.walk_step.Tie as tie
 
 returns : tie.Need-returns
-returns c = telling_step c.before.before.before.before.before.before.by_value.ensures _ _ _ _ c.before.before.before.before.step-lent.ensures c.before.stepped.ensures c.plain.ensures
+returns c = telling_step c.by_value.ensures _ _ _ _ c.step_lent-after.ensures c.stepped.ensures c.plain.ensures
 
 pub walk_step_spec : {M : Type 1} → statement M
 walk_step_spec =

@@ -7,36 +7,36 @@ use Rattle.binomials.proofs.Turns.{Asked, asked, odd_step, twos_step, twos_fit, 
 use Rattle.binomials.proofs.coefficient.Statement.{statement}
 use Rattle.binomials.proofs.coefficient.Tie as tie
 
-abbrev invariant-loop : tie.invariant-loop
+abbrev invariant-loop : tie.invariant-loop-i
 invariant-loop n k odd₀ twos₀ i₀ odd twos i = (i ≤ 2) × ((odd ≡ odd_below n k i) × (twos ≡ twos_below n k i))
 
-abbrev decreases-loop : tie.decreases-loop
+abbrev decreases-loop : tie.decreases-loop-i
 decreases-loop n k odd₀ twos₀ i₀ odd twos i = 2 - i
 
-loop-holds : tie.Need-loop-init invariant-loop decreases-loop
+loop-holds : tie.Need-loop-i-init invariant-loop decreases-loop
 unfolding odd_below twos_below
 loop-holds c = (omega arith, (refl, refl))
 
 -- in a turn, once the parts are known
-module _ (c : tie.After-parts-of invariant-loop decreases-loop) where
+module _ (c : tie.After-parts_of-parts invariant-loop decreases-loop) where
   abbrev start : tie.Start invariant-loop decreases-loop
   start = c.before.before.before.before
 
-  told : Asked start.args.n start.args.k c.before.before.loop.i c.parts-of.result
-  told = asked _ _ _ c.before.number_at.ensures c.parts-of.ensures
+  told : Asked start.args.n start.args.k c.loop-i.i c.parts_of-parts.result
+  told = asked _ _ _ c.number_at.ensures c.parts_of-parts.ensures
 
-  more-twos : c.before.before.loop.twos + c.parts-of.result.2 ≡ twos_below start.args.n start.args.k (c.before.before.loop.i + 1)
-  more-twos = twos_step _ _ _ told c.before.before.loop.invariant.1.1
+  more-twos : c.loop-i.twos + c.parts_of-parts.result.2 ≡ twos_below start.args.n start.args.k (c.loop-i.i + 1)
+  more-twos = twos_step _ _ _ told c.loop-i.invariant.1.1
 
 -- in the last turn
-at_last : (c : tie.After-struct-known invariant-loop decreases-loop) → let a = c.before.before.before in let l = a.before.before.loop in Last (start a).args.n (start a).args.k l.odd l.twos a.parts-of.result
+at_last : (c : tie.After-struct_known-1 invariant-loop decreases-loop) → let a = c.before.before.before in let l = a.loop-i in Last (start a).args.n (start a).args.k l.odd l.twos a.parts_of-parts.result
 at_last c =
-    let a = c.before.before.before in let l = a.before.before.loop in
-    last _ _ l.i (omega arith) (omega arith) (start a).requires.1 c.before.before.if2.true (told a) l.invariant.1.0 l.invariant.1.1
+    let a = c.before.before.before in let l = a.loop-i in
+    last _ _ l.i (omega arith) (omega arith) (start a).requires.1 c.if-i-eq2.true (told a) l.invariant.1.0 l.invariant.1.1
 
 -- in the others
-loop-again : tie.Need-loop-preserved invariant-loop decreases-loop
-loop-again c = let a = c.before.before.before in (omega arith, (odd_step _ _ _ (told a) a.before.before.loop.invariant.1.0 c.before.low2.ensures, more-twos a))
+loop-again : tie.Need-loop-i-preserved invariant-loop decreases-loop
+loop-again c = let a = c.before.before.before in (omega arith, (odd_step _ _ _ (told a) a.loop-i.invariant.1.0 c.low-odd.ensures, more-twos a))
 
 pub coefficient_spec : {M : Type 1} → statement M
 coefficient_spec =
@@ -44,14 +44,14 @@ coefficient_spec =
     (tie.spec
     invariant-loop
     decreases-loop
-    (λ c. sym (choose-none c.before.args.n c.before.args.k c.if1.true))
+    (λ c. sym (choose-none c.args.n c.args.k c.if-n-k.true))
     loop-holds
     (λ c κs. search rules)
     (λ c κs. search rules)
     (λ c κs. search rules)
     (λ c. (at_last c).fewer)
     (λ c. (at_last c).few)
-    (λ c. (at_last c).made c.before.low.ensures)
+    (λ c. (at_last c).made c.low.ensures)
     (λ c κs. search rules)
     (λ c. let a = c.before.before.before in record { fits = omega (arith, twos_fit (start a).args.n (start a).args.k _ _ _ (omega arith) (omega arith) (omega arith) (more-twos a)) })
     (λ c. search rules)

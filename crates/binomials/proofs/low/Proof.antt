@@ -15,4 +15,4 @@ low_spec =
     (λ c. search rules)
     (λ c. let a = c.args in record { fits = omega (arith, small (a.a % 4294967296) (a.b % 4294967296) (omega arith) (omega arith)) })
     (λ c κs. search rules)
-    (λ c. let a = c.before.args in c.wrapping-add-u64.ensures ∙ limbs a.a a.b))
+    (λ c. let a = c.args in c.wrapping_add_u64.ensures ∙ limbs a.a a.b))

@@ -11,13 +11,13 @@ third n k zero p q = absurd (p refl)
 third n k (suc zero) p q = absurd (q refl)
 third n k (suc (suc i)) p q = refl
 
-returns : tie.Need-returns
+returns : tie.Need-returns-then-i-eq0
 unfolding number_at
-returns c = rw c.if1.true
+returns c = rw c.if-i-eq0.true
 
-returns-2 : tie.Need-returns-2
+returns-2 : tie.Need-returns-then-i-eq1
 unfolding number_at
-returns-2 c = rw c.if2.true
+returns-2 c = rw c.if-i-eq1.true
 
 pub number_at_spec : {M : Type 1} → statement M
 number_at_spec =
@@ -26,4 +26,4 @@ number_at_spec =
     returns
     (λ c. search rules)
     returns-2
-    (λ c. third c.before.before.args.n c.before.before.args.k c.before.before.args.i c.before.if1.false c.if2.false))
+    (λ c. third c.args.n c.args.k c.args.i c.if-i-eq0.false c.if-i-eq1.false))

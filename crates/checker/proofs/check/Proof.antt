@@ -13,7 +13,7 @@ check_spec =
     (tie.spec
     (λ c κs. search rules)
     (λ c. search rules)
-    (λ c κs. sym (ap length_as c.before.answer.given.1) ∙ c.before.before.before.object-length.ensures)
+    (λ c κs. sym (ap length_as c.in-Bytes.is) ∙ c.object_length-answer.ensures)
     (λ c. search rules)
     (λ c. search rules)
-    (λ c. no_length _ _ _ _ (sym (ap length_as c.before.answer2.given.1) ∙ c.before.before.before.object-length.ensures)))
+    (λ c. no_length _ _ _ _ (sym (ap length_as c.in-Refused.is) ∙ c.object_length-answer.ensures)))

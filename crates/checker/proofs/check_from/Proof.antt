@@ -12,27 +12,26 @@ use Rattle.checker.proofs.Answering.{no_product, accepted, wrong}
 use Rattle.checker.proofs.check_from.Statement.{statement}
 use Rattle.checker.proofs.check_from.Tie as tie
 
-returns : tie.Need-returns
-returns c = no_product _ _ _ _ c.before.before.before.before.requires (sym c.before.is-product.ensures ∙ not-true _ c.if1.true)
+returns : tie.Need-returns-then-not-is_product
+returns c = no_product _ _ _ _ c.requires (sym c.is_product.ensures ∙ not-true _ c.if-not-is_product.true-raw)
 
 -- past question 12
-product : (c : tie.Else1) → let a = c.before.before.before.before.args in eqb (length a.bytes.now) (a.entries * length a.object.now) ≡ true
-product c = sym c.before.is-product.ensures ∙ not-false _ c.if1.false
+product : (c : tie.Else-not-is_product) → let a = c.args in eqb (length a.bytes.now) (a.entries * length a.object.now) ≡ true
+product c = sym c.is_product.ensures ∙ not-false _ c.if-not-is_product.false-raw
 
-compare-requires : tie.Need-compare-requires
+compare-requires : tie.Need-compare-found-requires
 compare-requires c κs =
-    let e = c.before in
-    (e.before.before.before.before.requires, eqb-true _ _ (product e))
+    let e = c.before in record { first = e.requires; bytes_len = eqb-true _ _ (product e) }
 
-returns-2 : tie.Need-returns-2
+returns-2 : tie.Need-returns-in-None
 returns-2 c =
-    let d = c.before.before.before.before in let e = d.before.before in
-    accepted _ _ _ _ e.before.before.before.before.requires (product e) (ap difference_as c.enum_told.given.1) d.compare.ensures
+    let d = c.before.before.before in let e = d.before.before in
+    accepted _ _ _ _ e.requires (product e) (ap difference_as c.in-None.is) d.compare-found.ensures
 
-returns-3 : tie.Need-returns-3
+returns-3 : tie.Need-returns-in-At
 returns-3 c =
-    let d = c.before.before.before.before.before in let e = d.before.before in
-    wrong _ _ _ _ e.before.before.before.before.requires (product e) (ap difference_as c.before.found.given.1) d.compare.ensures
+    let d = c.before.before.before in let e = d.before.before in
+    wrong _ _ _ _ e.requires (product e) (ap difference_as c.in-At.is) d.compare-found.ensures
 
 pub check_from_spec : {M : Type 1} → statement M
 check_from_spec =

@@ -6,15 +6,15 @@ use Rattle.checker.proofs.Answering.{no_first}
 use Rattle.checker.proofs.check_in.Statement.{statement}
 use Rattle.checker.proofs.check_in.Tie as tie
 
-check-from-requires : tie.Need-check-from-requires
+check-from-requires : tie.Need-check_from-requires
 check-from-requires c κs =
     let t = c.before in
-    starts _ _ _ (rw t.enum_told.given.1 at t.before.before.before.before.first.ensures)
+    starts _ _ _ (rw t.in-Done.is at t.first-answer.ensures)
 
-returns-2 : tie.Need-returns-2
+returns-2 : tie.Need-returns-in-Refused
 returns-2 c =
-    let w = c.before in let f = w.before.before.before.before in
-    no_first _ _ _ _ _ f.before.before.before.before.requires (rw w.answer.given.1 at f.first.ensures)
+    let w = c in let f = w.before.before in
+    no_first _ _ _ _ _ f.requires (rw w.in-Refused.is at f.first-answer.ensures)
 
 pub check_in_spec : {M : Type 1} → statement M
 check_in_spec =

@@ -15,12 +15,12 @@ use Rattle.checker.proofs.check_long.Statement.{statement}
 use Rattle.checker.proofs.check_long.Tie as tie
 
 -- the length that was told
-told : (c : tie.After-shared-slice-known) → let a = c.before.args in Told a.f (lent (map (λ x. x.now) a.lists)) a.long
-told c = let a = c.before.args in length-known a.f (lent (map (λ x. x.now) a.lists)) c.before.requires
+told : (c : tie.After-shared_slice_known-1) → let a = c.args in Told a.f (lent (map (λ x. x.now) a.lists)) a.long
+told c = let a = c.args in length-known a.f (lent (map (λ x. x.now) a.lists)) c.requires
 
 -- the part of the array that is lent is so long
-part : (c : tie.After-shared-slice-known) → let n = c.before.args.long in length (take n (replicate {A = ℕ} longest_object 0)) ≡ n
-part c = length-take-le c.before.args.long (replicate {A = ℕ} longest_object 0) (told c).within
+part : (c : tie.After-shared_slice_known-1) → let n = c.args.long in length (take n (replicate {A = ℕ} longest_object 0)) ≡ n
+part c = length-take-le c.args.long (replicate {A = ℕ} longest_object 0) (told c).within
 
 pub check_long_spec : {M : Type 1} → statement M
 check_long_spec =
@@ -28,5 +28,5 @@ check_long_spec =
     (tie.spec
     (λ c. omega (arith, (told c).within))
     (λ c. sym (part c.before))
-    (λ c κs. ap {B = Answer} MEASURED (part c.before) ∙ c.before.before.requires)
+    (λ c κs. ap {B = Answer} MEASURED (part c.before) ∙ c.requires)
     (λ c. search rules))

@@ -20,15 +20,15 @@ use Rattle.checker.proofs.Comparing.{entries, entry, Standing, start, differs, a
 use Rattle.checker.proofs.compare.Statement.{statement}
 use Rattle.checker.proofs.compare.Tie as tie
 
-abbrev invariant-loop : tie.invariant-loop
+abbrev invariant-loop : tie.invariant-loop-place
 invariant-loop f lists entries bytes object₀ place₀ at₀ object place at =
     (place ≤ entries) × ((at ≡ place * length object₀) × ((length object ≡ length object₀) × Standing (listing f (lent (map (λ x. x.now) lists))) entries (length object₀) bytes place object))
 
-abbrev decreases-loop : tie.decreases-loop
+abbrev decreases-loop : tie.decreases-loop-place
 decreases-loop f lists entries bytes object₀ place₀ at₀ object place at = entries - place
 
 -- the start, from the head of the loop, and what is compared there
-module _ (c : tie.At-loop invariant-loop decreases-loop) where
+module _ (c : tie.At-loop-place invariant-loop decreases-loop) where
   abbrev a : tie.Start invariant-loop decreases-loop
   a = c.before.before.before
 
@@ -39,62 +39,62 @@ module _ (c : tie.At-loop invariant-loop decreases-loop) where
   long = length a.args.object.now
 
   -- the entry that the code reads is the one at the place
-  read : take (c.loop.at + length c.loop.object - c.loop.at) (drop c.loop.at a.args.bytes.now) ≡ entry l a.args.entries long a.args.bytes.now c.loop.place
+  read : take (c.loop-place.at + length c.loop-place.object - c.loop-place.at) (drop c.loop-place.at a.args.bytes.now) ≡ entry l a.args.entries long a.args.bytes.now c.loop-place.place
   read =
-      let size : c.loop.at + length c.loop.object - c.loop.at ≡ long = omega (arith, c.loop.invariant.1.1.0) in
-      ap₂ (λ (n at : ℕ). take n (drop at a.args.bytes.now)) size c.loop.invariant.1.0
+      let size : c.loop-place.at + length c.loop-place.object - c.loop-place.at ≡ long = omega (arith, c.loop-place.invariant.1.1.0) in
+      ap₂ (λ (n at : ℕ). take n (drop at a.args.bytes.now)) size c.loop-place.invariant.1.0
 
-within : (c : tie.In-loop invariant-loop decreases-loop) → c.before.loop.at + length c.before.loop.object ≤ length (a c.before).args.bytes.now
+within : (c : tie.In-loop-place invariant-loop decreases-loop) → c.loop-place.at + length c.loop-place.object ≤ length (a c.before).args.bytes.now
 within c =
     let h = c.before in
-    omega (arith, (a h).requires.1, h.loop.invariant.1.0, h.loop.invariant.1.1.0, turn_within h.loop.place (a h).args.entries (long h) c.loop-test.true)
+    omega (arith, (a h).requires.bytes_len, h.loop-place.invariant.1.0, h.loop-place.invariant.1.1.0, turn_within h.loop-place.place (a h).args.entries (long h) c.loop-place-test.true)
 
 same-requires : tie.Need-same-requires invariant-loop decreases-loop
 same-requires c κs =
-    let i = c.before.before in let at = i.before.loop.at in let size = length i.before.loop.object in
+    let i = c.before.before in let at = i.loop-place.at in let size = length i.loop-place.object in
     let kept : at + size - at ≡ size = omega arith in
-    mid_len at (at + size) (a i.before).args.bytes.now (within i) ∙ kept
+    mid_len at (at + size) (a i).args.bytes.now (within i) ∙ kept
 
 -- what the comparison has told
 told : (c : tie.After-same invariant-loop decreases-loop) → let h = c.before.before.before.before in c.same.result ≡ same (entry (l h) (a h).args.entries (long h) (a h).args.bytes.now h.loop.place) h.loop.object
 told c = let h = c.before.before.before.before in c.same.ensures ∙ ap (λ (x : Bytes). same x h.loop.object) (read h)
 
-returns : tie.Need-returns invariant-loop decreases-loop
+returns : tie.Need-returns-then-not-same invariant-loop decreases-loop
 returns c =
     let s = c.before in let h = s.before.before.before.before in
-    sym (differs (l h) (a h).args.entries (long h) (a h).args.bytes.now h.loop.invariant.1.1.1 s.before.before.before.loop-test.true (sym (told s) ∙ not-true _ c.if1.true))
+    sym (differs (l h) (a h).args.entries (long h) (a h).args.bytes.now h.loop.invariant.1.1.1 s.loop-place-test.true (sym (told s) ∙ not-true _ c.if-not-same.true-raw))
 
 -- the entry is right
-right : (c : tie.Else1 invariant-loop decreases-loop) → let h = c.before.before.before.before.before in AgreeTo (l h) (entries (l h) (a h).args.entries (long h) (a h).args.bytes.now) (suc h.loop.place)
+right : (c : tie.Else-not-same invariant-loop decreases-loop) → let h = c.before.before.before.before.before in AgreeTo (l h) (entries (l h) (a h).args.entries (long h) (a h).args.bytes.now) (suc h.loop.place)
 right c =
     let s = c.before in let h = s.before.before.before.before in
-    agrees (l h) (a h).args.entries (long h) (a h).args.bytes.now h.loop.invariant.1.1.1 s.before.before.before.loop-test.true (sym (told s) ∙ not-false _ c.if1.false)
+    agrees (l h) (a h).args.entries (long h) (a h).args.bytes.now h.loop.invariant.1.1.1 s.loop-place-test.true (sym (told s) ∙ not-false _ c.if-not-same.false-raw)
 
-loop-again : tie.Need-loop-preserved invariant-loop decreases-loop
+loop-again : tie.Need-loop-place-preserved invariant-loop decreases-loop
 loop-again c =
-    let n = c.before.before.before.before in let e = n.before.before in let h = e.before.before.before.before.before in
+    let n = c.before.before.before in let e = n.before.before in let h = e.before.before.before.before.before in
     let st = h.loop.invariant.1.1.1 in
-    let there = moves_on (a h).args.f (lent (map (λ x. x.now) (a h).args.lists)) h.loop.place st.here (rw c.enum_told.given.1 at n.next.ensures) in
+    let there = moves_on (a h).args.f (lent (map (λ x. x.now) (a h).args.lists)) h.loop.place st.here (rw c.in-Moved.is at n.next.ensures) in
     (omega arith, (rw (add-one, suc-mul) (omega (arith, h.loop.invariant.1.0, h.loop.invariant.1.1.0)), (search rules, rw add-one (on (l h) (a h).args.entries (long h) (a h).args.bytes.now (right e) there))))
 
 -- where NEXT hasn't moved, the object was the last
-last : (c : tie.At-match-keys2 invariant-loop decreases-loop) → let h = c.before.before.before.before.before.before.before.before.before.before in suc h.loop.place ≡ length (l h)
+last : (c : tie.In_default invariant-loop decreases-loop) → let h = c.before.before.before.before.before.before.before.before.before.before in suc h.loop.place ≡ length (l h)
 last c =
     let n = c.before.before.before in let h = n.before.before.before.before.before.before.before in
-    stops (a h).args.f (lent (map (λ x. x.now) (a h).args.lists)) h.loop.place h.loop.invariant.1.1.1.here (not_moved n.next.result c.match.keys2) n.next.ensures
+    stops (a h).args.f (lent (map (λ x. x.now) (a h).args.lists)) h.loop.place h.loop.invariant.1.1.1.here (not_moved n.next.result c.in_default.in_default-own.keys2) n.next.ensures
 
-returns-2 : tie.Need-returns-2 invariant-loop decreases-loop
+returns-2 : tie.Need-returns-then-place-entries invariant-loop decreases-loop
 returns-2 c =
     let m = c.before in let e = m.before.before.before.before.before in let h = e.before.before.before.before.before in
-    sym (whole (l h) (a h).args.entries (long h) (a h).args.bytes.now (right e) (last m) (omega (arith, c.if2.true)))
+    sym (whole (l h) (a h).args.entries (long h) (a h).args.bytes.now (right e) (last m) (omega (arith, c.if-place-entries.true)))
 
-returns-3 : tie.Need-returns-3 invariant-loop decreases-loop
+returns-3 : tie.Need-returns-in_default invariant-loop decreases-loop
 returns-3 c =
     let m = c.before in let e = m.before.before.before.before.before in let h = e.before.before.before.before.before in
-    rw add-one (sym (longer (l h) (a h).args.entries (long h) (a h).args.bytes.now (right e) (last m) (omega (arith, c.if2.false))))
+    rw add-one (sym (longer (l h) (a h).args.entries (long h) (a h).args.bytes.now (right e) (last m) (omega (arith, c.if-place-entries.false))))
 
-returns-4 : tie.Need-returns-4 invariant-loop decreases-loop
-returns-4 c = let h = c.before in sym (shorter (l h) (a h).args.entries (long h) (a h).args.bytes.now h.loop.invariant.1.1.1 (omega arith))
+returns-4 : tie.Need-returns invariant-loop decreases-loop
+returns-4 c = let h = c.before in sym (shorter (l h) (a h).args.entries (long h) (a h).args.bytes.now h.loop-place.invariant.1.1.1 (omega arith))
 
 pub compare_spec : {M : Type 1} → statement M
 compare_spec =
@@ -102,7 +102,7 @@ compare_spec =
     (tie.spec
     invariant-loop
     decreases-loop
-    (λ c. (omega arith, (omega arith, (refl, start _ _ _ _ c.before.before.requires.0))))
+    (λ c. (omega arith, (omega arith, (refl, start _ _ _ _ c.requires.first))))
     (λ c. omega (arith, (a c.before).good, within c))
     (λ c. omega arith)
     (λ c. omega arith)

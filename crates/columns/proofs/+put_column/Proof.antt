@@ -30,22 +30,25 @@ put-column_below t =
 abbrev claims : ℕ → put-column-lts.Claims
 claims t = (put-blanks-reads.Asked, put-blanks-reads.Learnt, put-byte-reads.Asked, put-byte-reads.Learnt, put-column_below t, put-column.Post)
 
-put-column_returns : (t : ℕ) → put-column-lts.Need-returns (claims t) (put-column_at t) put-column.Post
+put-column_returns : (t : ℕ) → put-column-lts.Need-returns-then-width-eq0 (claims t) (put-column_at t) put-column.Post
 unfolding column
 put-column_returns t c = (omega arith, rw c.if1.true (wrote_nothing c.before.before.args.out.now c.before.before.args.at))
 
-put-column_returns_2 : (t : ℕ) → put-column-lts.Need-returns-2 (claims t) (put-column_at t) put-column.Post
+put-column_returns_2 : (t : ℕ) → put-column-lts.Need-returns-then-n-lt10 (claims t) (put-column_at t) put-column.Post
 put-column_returns_2 t c =
     let p = c.before.before.before.before.before.before in let e = p.before.before in let a = e.before.before.before.args in
     (omega arith, rw (column_digit a.width a.n e.before.if1.false e.if2.true) (then p.put-blanks.ensures.1 c.before.before.put_byte.ensures.1))
 
-put-column_returns_3 : (t : ℕ) → put-column-lts.Need-returns-3 (claims t) (put-column_at t) put-column.Post
+put-column_returns_3 : (t : ℕ) → put-column-lts.Need-returns (claims t) (put-column_at t) put-column.Post
 put-column_returns_3 t c =
     let p = c.before.before.before.before.before.before in let e = p.before.before in let a = e.before.before.before.args in
     (omega arith, rw (column-digits a.width a.n e.before.if1.false e.if2.false) (then p.put-column.ensures.1 c.before.before.put-byte2.ensures.1))
 
 pub +put_column_spec : {M : Type 1} → statement M
-+put_column_spec = close μ-put-column λ t. put-column-lts.spec (claims t) (put-column_at t) put-column.Post
++put_column_spec = close μ-put-column λ t. put-column-lts.spec
+    (claims t)
+    (put-column_at t)
+    put-column.Post
     (put-column_returns t)
     (λ c. search rules)
     (λ c κs. search rules)

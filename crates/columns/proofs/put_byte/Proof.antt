@@ -8,4 +8,8 @@ use Rattle.columns.proofs.put_byte.Statement.{statement}
 use Rattle.columns.proofs.put_byte.Tie as tie
 
 pub put_byte_spec : {M : Type 1} → statement M
-put_byte_spec = tie.close (tie.spec (λ c. search rules) (λ c. search rules) (λ c. search rules) (λ c. (refl, wrote_byte _ _ _ (omega arith))))
+put_byte_spec = tie.close (tie.spec
+    (λ c. search rules)
+    (λ c. search rules)
+    (λ c. search rules)
+    (λ c.record { value = refl; wrote = wrote_byte _ _ _ (omega arith) }))

@@ -9,8 +9,13 @@ use Rattle.columns.proofs.put_justified.Tie as tie
 
 returns : tie.Need-returns
 unfolding justified
-returns c = (omega arith, then c.before.before.before.before.before.before.put-blanks.ensures.1 c.before.before.put_word.ensures.1)
+returns c =record { value = omega arith; wrote = then c.put_blanks-from.ensures.wrote c.put_word.ensures.wrote }
 
 pub put_justified_spec : {M : Type 1} → statement M
 put_justified_spec =
-    tie.close (tie.spec (λ c. search rules) (λ c κs. search rules) (λ c κs. search rules) (λ c. search rules) returns)
+    tie.close (tie.spec
+    (λ c. search rules)
+    (λ c κs. search rules)
+    (λ c κs. search rules)
+    (λ c. search rules)
+    returns)

@@ -11,11 +11,17 @@ use Rattle.columns.proofs.put_word.Tie as tie
 
 returns : tie.Need-returns
 returns c =
-    let a = c.before.before.before.before.before.before.args in
-    let n = length a.word.now in
-    (refl, wrote_part a.out.now a.at (a.at + n - a.at) (a.at + n) c.before.before.copy.ensures (omega arith) refl)
+    let a = c.args in
+    let n = length a.word.now in record { value = refl; wrote = wrote_part a.out.now a.at (a.at + n - a.at) (a.at + n) c.copy.ensures (omega arith) refl }
 
 pub put_word_spec : {M : Type 1} → statement M
 put_word_spec =
     tie.close
-    (tie.spec (λ c. search rules) (λ c. search rules) (λ c. search rules) (λ c. search rules) (λ c κs. search rules) (λ c. search rules) returns)
+    (tie.spec
+    (λ c. search rules)
+    (λ c. search rules)
+    (λ c. search rules)
+    (λ c. search rules)
+    (λ c κs. search rules)
+    (λ c. search rules)
+    returns)

@@ -10,17 +10,17 @@ use Rattle.counting.proofs.Answers.{exactly_within, large_within, within_out, if
 use Rattle.counting.proofs.catalan.Statement.{statement}
 use Rattle.counting.proofs.catalan.Tie as tie
 
-returns-3 : tie.Need-returns-3
+returns-3 : tie.Need-returns
 returns-3 c =
-    let n = c.before.before.before.args.n in
-    let small = catalan_small c.before.if2.false in
+    let n = c.args.n in
+    let small = catalan_small c.if-n-gt36.false in
     exactly_within (le-leb n branches (omega arith)) (c.catalan.ensures ∙ if_small small) small
 
 pub catalan_spec : {M : Type 1} → statement M
 catalan_spec =
     tie.close
     (tie.spec
-    (λ c. sym (within_out _ _ (lt-leb c.before.args.n branches c.if1.true)))
-    (λ c. large_within (le-leb c.before.before.args.n branches c.before.if1.false) (catalan_large c.if2.true))
+    (λ c. sym (within_out _ _ (lt-leb c.args.n branches c.if-n-gt-BRANCHES.true)))
+    (λ c. large_within (le-leb c.args.n branches c.if-n-gt-BRANCHES.false) (catalan_large c.if-n-gt36.true))
     (λ c κs. search rules)
     returns-3)

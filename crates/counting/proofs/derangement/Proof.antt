@@ -10,17 +10,17 @@ use Rattle.counting.proofs.Answers.{exactly_within, large_within, within_out, if
 use Rattle.counting.proofs.derangement.Statement.{statement}
 use Rattle.counting.proofs.derangement.Tie as tie
 
-returns-2 : tie.Need-returns-2
+returns-2 : tie.Need-returns-then-n-le20
 returns-2 c =
-    let n = c.before.before.before.args.n in
-    let small = derangement_small c.before.if2.true in
+    let n = c.args.n in
+    let small = derangement_small c.if-n-le20.true in
     exactly_within (le-leb n places (omega arith)) (c.derangement.ensures ∙ if_small small) small
 
 pub derangement_spec : {M : Type 1} → statement M
 derangement_spec =
     tie.close
     (tie.spec
-    (λ c. sym (within_out _ _ (lt-leb c.before.args.n places c.if1.true)))
+    (λ c. sym (within_out _ _ (lt-leb c.args.n places c.if-n-gt-PLACES.true)))
     (λ c κs. search rules)
     returns-2
-    (λ c. large_within (le-leb c.before.before.args.n places c.before.if1.false) (derangement_large c.if2.false)))
+    (λ c. large_within (le-leb c.args.n places c.if-n-gt-PLACES.false) (derangement_large c.if-n-le20.false)))

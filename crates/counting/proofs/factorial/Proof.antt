@@ -10,16 +10,16 @@ use Rattle.counting.proofs.Answers.{exactly_within, large_within, within_out}
 use Rattle.counting.proofs.factorial.Statement.{statement}
 use Rattle.counting.proofs.factorial.Tie as tie
 
-returns-3 : tie.Need-returns-3
+returns-3 : tie.Need-returns
 returns-3 c =
-    let n = c.before.before.before.args.n in
-    exactly_within (le-leb n places (omega arith)) c.factorial.ensures (factorial_small c.before.if2.false)
+    let n = c.args.n in
+    exactly_within (le-leb n places (omega arith)) c.factorial.ensures (factorial_small c.if-n-gt20.false)
 
 pub factorial_spec : {M : Type 1} → statement M
 factorial_spec =
     tie.close
     (tie.spec
-    (λ c. sym (within_out _ _ (lt-leb c.before.args.n places c.if1.true)))
-    (λ c. large_within (le-leb c.before.before.args.n places c.before.if1.false) (factorial_large c.if2.true))
+    (λ c. sym (within_out _ _ (lt-leb c.args.n places c.if-n-gt-PLACES.true)))
+    (λ c. large_within (le-leb c.args.n places c.if-n-gt-PLACES.false) (factorial_large c.if-n-gt20.true))
     (λ c κs. search rules)
     returns-3)

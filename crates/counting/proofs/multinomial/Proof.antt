@@ -12,6 +12,6 @@ multinomial_spec =
     tie.close
     (tie.spec
     (λ c κs. search rules)
-    (λ c κs. leb-true _ _ (sym c.before.within-places.ensures ∙ c.if1.true))
-    (λ c. c.of-binomials.ensures ∙ sym (within_in _ _ (sym c.before.before.within-places.ensures ∙ c.before.if1.true)))
-    (λ c. sym (within_out _ _ (sym c.before.within-places.ensures ∙ c.if1.false))))
+    (λ c κs. leb-true _ _ (sym c.within_places.ensures ∙ c.if-within_places.true))
+    (λ c. c.of_binomials.ensures ∙ sym (within_in _ _ (sym c.within_places.ensures ∙ c.if-within_places.true)))
+    (λ c. sym (within_out _ _ (sym c.within_places.ensures ∙ c.if-within_places.false))))

@@ -23,27 +23,27 @@ too_high f b high = rw (le-leb 1 f (omega arith), lt-leb f floors high)
 floor_in : (f : ℕ) (b : Bool) → 1 ≤ f → f ≤ floors → ((leb 1 f && leb f floors) && b) ≡ b
 floor_in f b low high = rw (le-leb 1 f low, le-leb f floors high)
 
-returns-2 : tie.Need-returns-2
-returns-2 c = let a = c.before.before.args in sym (within_out _ _ (too_high a.floor _ c.if2.true))
+returns-2 : tie.Need-returns-then-floor-gt-FLOORS
+returns-2 c = let a = c.args in sym (within_out _ _ (too_high a.floor _ c.if-floor-gt-FLOORS.true))
 
-returns-3 : tie.Need-returns-3
-returns-3 c = let a = c.before.before.before.args in sym (within_out _ _ (floor_in a.floor _ (omega arith) (omega arith) ∙ first_out a.n a.k places c.if3.true))
+returns-3 : tie.Need-returns-then-n-gt-PLACES
+returns-3 c = let a = c.args in sym (within_out _ _ (floor_in a.floor _ (omega arith) (omega arith) ∙ first_out a.n a.k places c.if-n-gt-PLACES.true))
 
-returns-4 : tie.Need-returns-4
-returns-4 c = let a = c.before.before.before.before.args in sym (within_out _ _ (floor_in a.floor _ (omega arith) (omega arith) ∙ second_out a.n a.k places c.if4.true))
+returns-4 : tie.Need-returns-then-k-gt-PLACES
+returns-4 c = let a = c.args in sym (within_out _ _ (floor_in a.floor _ (omega arith) (omega arith) ∙ second_out a.n a.k places c.if-k-gt-PLACES.true))
 
-returns-5 : tie.Need-returns-5
+returns-5 : tie.Need-returns
 returns-5 c =
-    let a = c.before.before.before.before.before.args in
-    exactly_within (floor_in a.floor _ (omega arith) (omega arith) ∙ both_in a.n a.k places (omega arith) (omega arith)) c.at_least_lem.ensures (omega (arith, c.at_least_lem.type-inv))
+    let a = c.args in
+    exactly_within (floor_in a.floor _ (omega arith) (omega arith) ∙ both_in a.n a.k places (omega arith) (omega arith)) c.at_least.ensures (omega (arith, c.at_least.type-inv))
 
 pub partitions_spec : {M : Type 1} → statement M
 partitions_spec =
     tie.close
     (tie.spec
-    (λ c. sym (within_out _ _ (too_low c.before.args.floor _ c.if1.true)))
+    (λ c. sym (within_out _ _ (too_low c.args.floor _ c.if-floor-lt1.true)))
     returns-2
     returns-3
     returns-4
-    (λ c κs. search rules)
+    (λ c κs.record { floor_nonzero = search rules; floor_bound = search rules })
     returns-5)

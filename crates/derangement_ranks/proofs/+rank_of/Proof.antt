@@ -37,44 +37,47 @@ claims t = (derangement-that-fits-reads.Asked, derangement-that-fits-reads.Learn
 
 module _ (t : ℕ) where
   -- past the test for no place
-  two : (c : rank-of-lts.Else1 (claims t) (rank_of_at t) rank-of.Post) → 2 ≤ length c.before.before.args.object.now
-  two c = let s = c.before.before in two_where_object _ _ c.if1.false s.requires.1.1.0
+  two : (c : rank-of-lts.Else-n-eq0 (claims t) (rank_of_at t) rank-of.Post) → 2 ≤ length c.args.object.now
+  two c = let s = c.before.before in two_where_object _ _ c.if-n-eq0.false s.requires.1.object_value
 
   -- past the two numbers
-  known : (c : rank-of-lts.After-derangement-that-fits2 (claims t) (rank_of_at t) rank-of.Post) → Numbers (length c.before.before.before.before.args.object.now) c.before.derangement-that-fits.result c.derangement-that-fits2.result
-  known c = numbers _ (two c.before.before) c.before.before.before.before.requires.1.1.1 c.before.derangement-that-fits.ensures c.derangement-that-fits2.ensures
+  known : (c : rank-of-lts.After-derangement_that_fits-shorter (claims t) (rank_of_at t) rank-of.Post) → Numbers (length c.args.object.now) c.derangement_that_fits-longer.result c.derangement_that_fits-shorter.result
+  known c = numbers _ (two c.before.before) c.requires.1.object_bound c.derangement_that_fits-longer.ensures c.derangement_that_fits-shorter.ensures
 
   -- with the key, and as many places as are left
-  rest : (c : rank-of-lts.After-left-of (claims t) (rank_of_at t) rank-of.Post)
-      → let x = c.before.before.before.before.before.before.before.before.before.args.object.now in
-      let apart = c.before.before.before.take-apart in
-      let longer = c.before.before.before.before.before.before.derangement-that-fits.result in
-      let shorter = c.before.before.before.before.before.derangement-that-fits2.result in
-      Rest (length x) (earlier_by (length x) apart.result longer shorter) c.left_of_lem.result x (take c.left_of_lem.result apart.new.0)
-  rest c = taken (known c.before.before.before.before.before) c.before.before.before.take-apart.ensures c.left_of_lem.ensures
+  rest : (c : rank-of-lts.After-left_of-left (claims t) (rank_of_at t) rank-of.Post)
+      → let x = c.args.object.now in
+      let apart = c.take_apart-key in
+      let longer = c.derangement_that_fits-longer.result in
+      let shorter = c.derangement_that_fits-shorter.result in
+      Rest (length x) (earlier_by (length x) apart.result longer shorter) c.left_of-left.result x (take c.left_of-left.result apart.new.object)
+  rest c = taken (known c.before.before.before.before.before) c.take_apart-key.ensures c.left_of-left.ensures
 
   -- past all
-  stands : (c : rank-of-lts.After-rank-of (claims t) (rank_of_at t) rank-of.Post)
-      → let x = c.before.before.before.before.before.before.before.before.before.before.before.before.args.object.now in
-      At (derangements (length x)) x (c.before.before.earlier.result + c.rank-of.result)
-  stands c = rw c.before.before.earlier.ensures ((rest c.before.before.before).stands _ c.rank-of.ensures)
+  stands : (c : rank-of-lts.After-rank_of (claims t) (rank_of_at t) rank-of.Post)
+      → let x = c.args.object.now in
+      At (derangements (length x)) x (c.earlier-before.result + c.rank_of.result)
+  stands c = rw c.earlier-before.ensures ((rest c.before.before.before).stands _ c.rank_of.ensures)
 
 pub +rank_of_spec : {M : Type 1} → statement M
-+rank_of_spec = close μ-rank-of λ t. rank-of-lts.spec (claims t) (rank_of_at t) rank-of.Post
-    (λ c. empty_at _ c.if1.true)
++rank_of_spec = close μ-rank-of λ t. rank-of-lts.spec
+    (claims t)
+    (rank_of_at t)
+    rank-of.Post
+    (λ c. empty_at _ c.if-n-eq0.true)
     (λ c. omega (arith, two t c))
     (λ c κs. tt)
     (λ c. two t c.before)
     (λ c κs. tt)
-    (λ c κs. let p = c.before.before.before.before.before.requires.1 in ((two t c.before.before.before, p.0), p.1.0))
+    (λ c κs. let p = c.requires.1 in record { in_bounds = (two t c.before.before.before, p.0); object_value = p.1.0 })
     (λ c κs. two t c.before.before.before.before.before.before)
     (λ c. omega arith)
-    (λ c κs. ((omega (arith, (rest t c).within), c.before.before.before.take-apart.ensures.keyed.from), omega (arith, (rest t c).below)))
+    (λ c κs.record { le_n = (omega (arith, (rest t c).within), c.take_apart-key.ensures.keyed.from); shorter_bound = omega (arith, (rest t c).below) })
     (λ c. omega (arith, (rest t c.before).within))
     (λ c. sym (rest t c.before.before).size)
     (λ c κs.
     let r = rest t c.before.before in
     (omega arith, (omega arith, (r.object, omega arith))))
     (λ c. let s = c.before.before.before.before.before.before.before.before.before.before.before.before.before.before in omega (arith, at_below (derangements _) _ (stands t c.before.before), counted (length s.args.object.now)))
-    (λ c. length_front c.before.before.before.before.before.before.before.before.take-apart.new.0 c.before.before.rank-of.new.0 c.before.before.before.before.before.left_of_lem.result c.before.before.rank-of.auto.0 ∙ c.before.before.before.before.before.before.before.before.take-apart.auto.0)
+    (λ c. length_front c.take_apart-key.new.object c.rank_of.new.object c.left_of-left.result c.rank_of.auto.object ∙ c.take_apart-key.auto.object)
     (λ c. stands t c.before.before)

@@ -33,40 +33,43 @@ claims t = (derangement-that-fits-reads.Asked, derangement-that-fits-reads.Learn
 
 module _ (t : ℕ) where
   -- past the test for no place
-  two : (c : unrank-lts.Else1 (claims t) (unrank_at t) unrank.Post) → 2 ≤ length c.before.before.args.object.now
-  two c = let s = c.before.before in two_where_some (length s.args.object.now) s.args.rank c.if1.false s.requires.1.1.1
+  two : (c : unrank-lts.Else-n-eq0 (claims t) (unrank_at t) unrank.Post) → 2 ≤ length c.args.object.now
+  two c = let s = c.before.before in two_where_some (length s.args.object.now) s.args.rank c.if-n-eq0.false s.requires.1.rank_bound
 
   -- past the two numbers
-  known : (c : unrank-lts.After-derangement-that-fits2 (claims t) (unrank_at t) unrank.Post) → Numbers (length c.before.before.before.before.args.object.now) c.before.derangement-that-fits.result c.derangement-that-fits2.result
-  known c = numbers _ (two c.before.before) c.before.before.before.before.requires.1.1.0 c.before.derangement-that-fits.ensures c.derangement-that-fits2.ensures
+  known : (c : unrank-lts.After-derangement_that_fits-shorter (claims t) (unrank_at t) unrank.Post) → Numbers (length c.args.object.now) c.derangement_that_fits-longer.result c.derangement_that_fits-shorter.result
+  known c = numbers _ (two c.before.before) c.requires.1.object_bound c.derangement_that_fits-longer.ensures c.derangement_that_fits-shorter.ensures
 
   -- with the key, and as many places as are left
-  lent : (c : unrank-lts.After-left-of (claims t) (unrank_at t) unrank.Post) → let a = c.before.before.before.before.before.before.before.args in let place = c.before.before.place_at.result in Front a.rank place.0 place.1 c.left_of_lem.result a.object.now
-  lent c = front _ (known c.before.before.before) c.before.before.place_at.ensures c.left_of_lem.ensures
+  lent : (c : unrank-lts.After-left_of-left (claims t) (unrank_at t) unrank.Post) → let a = c.args in let place = c.place_at-place.result in Front a.rank place.0 place.1 c.left_of-left.result a.object.now
+  lent c = front _ (known c.before.before.before) c.place_at-place.ensures c.left_of-left.ensures
 
   -- with the derangement left
-  whole : (c : unrank-lts.After-unrank (claims t) (unrank_at t) unrank.Post) → let a = c.before.before.before.before.before.before.before.before.before.args in Written a.rank c.before.before.before.before.place_at.result.0 c.before.before.left_of_lem.result a.object.now c.unrank.new.1.0
+  whole : (c : unrank-lts.After-unrank (claims t) (unrank_at t) unrank.Post) → let a = c.args in Written a.rank c.place_at-place.result.0 c.left_of-left.result a.object.now c.unrank.new.object
   whole c = (lent c.before.before).written _ c.unrank.ensures
 
-  returns : unrank-lts.Need-returns (claims t) (unrank_at t) unrank.Post
+  returns : unrank-lts.Need-returns-then-n-eq0 (claims t) (unrank_at t) unrank.Post
   returns c =
       let s = c.before.before in
-      let zeroth : s.args.rank ≡ 0 = omega (arith, ap derangements_of c.if1.true, derangement_zero, s.requires.1.1.1) in
-      rw zeroth (empty_at _ c.if1.true)
+      let zeroth : s.args.rank ≡ 0 = omega (arith, ap derangements_of c.if-n-eq0.true, derangement_zero, s.requires.1.rank_bound) in
+      rw zeroth (empty_at _ c.if-n-eq0.true)
 
 pub +unrank_spec : {M : Type 1} → statement M
-+unrank_spec = close μ-unrank λ t. unrank-lts.spec (claims t) (unrank_at t) unrank.Post
++unrank_spec = close μ-unrank λ t. unrank-lts.spec
+    (claims t)
+    (unrank_at t)
+    unrank.Post
     (returns t)
     (λ c. omega (arith, two t c))
     (λ c κs. tt)
     (λ c. two t c.before)
     (λ c κs. tt)
-    (λ c κs. omega (arith, known t c))
+    (λ c κs.record { le_n = omega (arith, known t c); rank_bound = omega (arith, known t c); shorter_bound = omega (arith, known t c) })
     (λ c. omega arith)
     (λ c κs. two t c.before.before.before.before)
     (λ c. omega (arith, (lent t c).within))
     (λ c. sym (lent t c.before).size)
     (λ c κs. let f = lent t c.before in (omega arith, (omega arith, (omega arith, f.below))))
-    (λ c κs. let w = whole t c.before.before.before in ((omega (arith, two t c.before.before.before.before.before.before.before.before.before.before), omega arith), w.keyed))
-    (λ c. c.before.before.put-together.auto.1.0 ∙ (whole t c.before.before.before.before.before.before).size)
-    (λ c. (whole t c.before.before.before.before.before.before).joined c.before.before.put-together.ensures)
+    (λ c κs. let w = whole t c.before.before.before in record { in_bounds = (omega (arith, two t c.before.before.before.before.before.before.before.before.before.before), omega arith); keyed = w.keyed })
+    (λ c. c.put_together.auto.object ∙ (whole t c.before.before.before.before.before.before).size)
+    (λ c. (whole t c.before.before.before.before.before.before).joined c.put_together.ensures)

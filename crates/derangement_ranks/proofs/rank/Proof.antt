@@ -14,6 +14,6 @@ rank_spec =
     (tie.spec
     (λ c κs. search rules)
     (λ c. search rules)
-    (λ c. sym (ap length c.before.copied.ensures.1))
-    (λ c κs. rw c.before.copied.ensures.1 c.before.before.before.requires)
-    (λ c. sym (place-is_rank (lists _) _ (rw c.before.before.before.copied.ensures.1 at c.before.rank-of.ensures))))
+    (λ c. sym (ap length c.copied-bytes.ensures.1))
+    (λ c κs. rw c.copied-bytes.ensures.1 c.requires)
+    (λ c. sym (place-is_rank (lists _) _ (rw c.copied-bytes.ensures.1 at c.rank_of.ensures))))

@@ -12,6 +12,6 @@ is_object_spec =
     tie.close
     (tie.spec
     (λ c κs. search rules)
-    (λ c. rw (← c.before.is-object.ensures, not-true c.before.is-object.result c.if1.true))
+    (λ c. rw (← c.is_object.ensures, not-true c.is_object.result c.if-not-is_object.true-raw))
     (λ c κs. search rules)
-    (λ c. rw (← c.before.before.is-object.ensures, not-false c.before.before.is-object.result c.before.if1.false, c.has-fixed-point.ensures)))
+    (λ c. rw (← c.is_object.ensures, not-false c.is_object.result c.if-not-is_object.false-raw, c.has_fixed_point.ensures)))

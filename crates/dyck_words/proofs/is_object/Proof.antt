@@ -7,18 +7,18 @@ use borrow.Author.Rules.{rules}
 use Rattle.dyck_words.proofs.is_object.Statement.{statement}
 use Rattle.dyck_words.proofs.is_object.Tie as tie
 
-returns-2 : tie.Need-returns-2
-returns-2 c = no_object c.before.before.before.before.before.args.n c.before.before.before.before.before.args.object.now (subst (RowRead c.before.before.before.before.before.args.object.now 0) c.enum_told.given.1 c.before.before.row.ensures)
+returns-2 : tie.Need-returns-in_default
+returns-2 c = no_object c.args.n c.args.object.now (subst (RowRead c.args.object.now 0) c.in_default.is c.row.ensures)
 
-returns-3 : tie.Need-returns-3
-returns-3 c = row-tells c.before.before.before.before.before.before.args.n c.before.before.before.before.before.before.args.object.now c.before.before.before.before.if1.false (subst (RowRead c.before.before.before.before.before.before.args.object.now 0) c.before.end.given.1 c.before.before.before.row.ensures)
+returns-3 : tie.Need-returns
+returns-3 c = row-tells c.args.n c.args.object.now c.if-object-n.false (subst (RowRead c.args.object.now 0) c.in-To.is c.row.ensures)
 
 pub is_object_spec : {M : Type 1} → statement M
 is_object_spec =
     tie.close
     (tie.spec
     (λ c. search rules)
-    (λ c. wrong_length c.before.before.args.n c.before.before.args.object.now c.if1.true)
+    (λ c. wrong_length c.args.n c.args.object.now c.if-object-n.true)
     (λ c κs. search rules)
     (λ c. search rules)
     (λ c. search rules)

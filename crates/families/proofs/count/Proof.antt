@@ -12,13 +12,13 @@ use Rattle.families.proofs.Responses.{refused, count_said, count_refused}
 use Rattle.families.proofs.count.Statement.{statement}
 use Rattle.families.proofs.count.Tie as tie
 
-returns : tie.Need-returns
-returns c = count_refused _ _ _ (verdict c.before.before.before.before.asked-of-all.ensures c.before.before.enum_told.given.1) (not_exact _ c.before.answer.ensures c.match2.keys2)
+returns : tie.Need-returns-in_default-answer
+returns c = count_refused _ _ _ (verdict c.asked_of_all.ensures c.in_default.is) (not_exact _ c.answer.ensures c.in_default-answer.in_default-answer-own.keys2)
 
-returns-2 : tie.Need-returns-2
+returns-2 : tie.Need-returns-in_default
 returns-2 c =
-    let exact = sym c.before.before.before.answer.ensures ∙ c.before.objects.given.1 in
-    ap {B = Said} (λ (n : ℕ). (COUNTED n, [])) (sym (exactly _ _ exact)) ∙ count_said _ _ _ (verdict c.before.before.before.before.before.before.asked-of-all.ensures c.before.before.before.before.enum_told.given.1) (exactly_below _ _ exact)
+    let exact = sym c.answer.ensures ∙ c.in-Exactly.is in
+    ap {B = Said} (λ (n : ℕ). (COUNTED n, [])) (sym (exactly _ _ exact)) ∙ count_said _ _ _ (verdict c.asked_of_all.ensures c.in_default.is) (exactly_below _ _ exact)
 
 pub count_spec : {M : Type 1} → statement M
 count_spec =
@@ -27,8 +27,8 @@ count_spec =
     (λ c κs. search rules)
     (λ c. search rules)
     (λ c. search rules)
-    (λ c κs. allowed-asked _ _ (verdict c.before.before.asked-of-all.ensures c.enum_told.given.1))
+    (λ c κs. allowed-asked _ _ (verdict c.asked_of_all.ensures c.in_default.is))
     (λ c. search rules)
     returns
     returns-2
-    (λ c. refused _ _ _ COUNT (refused_early _ _ COUNT _ _ (verdict c.before.before.before.asked-of-all.ensures c.before.q.given.1))))
+    (λ c. refused _ _ _ COUNT (refused_early _ _ COUNT _ _ (verdict c.asked_of_all.ensures c.in-No.is))))

@@ -12,11 +12,10 @@ use Rattle.families.proofs.first.Tie as tie
 first-requires : tie.Need-first-requires
 unfolding count_of
 first-requires c κs =
-    let pass = verdict c.before.before.before.ask.ensures c.before.enum_told.given.1 in
-    (admitted _ _ FIRST _ _ pass, ((asks_enough _ _).some_first _ _ pass, (asks_enough _ _).sized FIRST _ _ refl pass))
+    let pass = verdict c.ask.ensures c.in_default.is in record { lists_value = admitted _ _ FIRST _ _ pass; nonzero = (asks_enough _ _).some_first _ _ pass; object_len = (asks_enough _ _).sized FIRST _ _ refl pass }
 
-returns : tie.Need-returns
-returns c = writes_first _ _ _ c.before.before.first.ensures (verdict c.before.before.before.before.before.before.ask.ensures c.before.before.before.before.enum_told.given.1)
+returns : tie.Need-returns-in_default
+returns c = writes_first _ _ _ c.first.ensures (verdict c.ask.ensures c.in_default.is)
 
 pub first_spec : {M : Type 1} → statement M
 first_spec =
@@ -29,4 +28,4 @@ first_spec =
     (λ c. search rules)
     returns
     (λ c. search rules)
-    (λ c. refused _ _ _ FIRST (verdict c.before.before.before.ask.ensures c.before.q.given.1)))
+    (λ c. refused _ _ _ FIRST (verdict c.ask.ensures c.in-No.is)))

@@ -12,11 +12,10 @@ use Rattle.families.proofs.last.Tie as tie
 last-requires : tie.Need-last-requires
 unfolding count_of
 last-requires c κs =
-    let pass = verdict c.before.before.before.ask.ensures c.before.enum_told.given.1 in
-    (admitted _ _ LAST _ _ pass, ((asks_enough _ _).some-last _ _ pass, (asks_enough _ _).sized LAST _ _ refl pass))
+    let pass = verdict c.ask.ensures c.in_default.is in record { lists_value = admitted _ _ LAST _ _ pass; nonzero = (asks_enough _ _).some-last _ _ pass; object_len = (asks_enough _ _).sized LAST _ _ refl pass }
 
-returns : tie.Need-returns
-returns c = writes_last _ _ _ c.before.before.last.ensures (verdict c.before.before.before.before.before.before.ask.ensures c.before.before.before.before.enum_told.given.1)
+returns : tie.Need-returns-in_default
+returns c = writes_last _ _ _ c.last.ensures (verdict c.ask.ensures c.in_default.is)
 
 pub last_spec : {M : Type 1} → statement M
 last_spec =
@@ -29,4 +28,4 @@ last_spec =
     (λ c. search rules)
     returns
     (λ c. search rules)
-    (λ c. refused _ _ _ LAST (verdict c.before.before.before.ask.ensures c.before.q.given.1)))
+    (λ c. refused _ _ _ LAST (verdict c.ask.ensures c.in-No.is)))

@@ -8,8 +8,8 @@ use Rattle.families.proofs.Responses.{refused, acts}
 use Rattle.families.proofs.next.Statement.{statement}
 use Rattle.families.proofs.next.Tie as tie
 
-returns : tie.Need-returns
-returns c = rw c.step-answer.ensures (c.before.before.before.next.ensures ∙ acts _ _ _ NEXT (verdict c.before.before.before.before.before.before.before.ask.ensures c.before.before.before.before.before.enum_told.given.1))
+returns : tie.Need-returns-in_default
+returns c = rw c.step_answer.ensures (c.next.ensures ∙ acts _ _ _ NEXT (verdict c.ask.ensures c.in_default.is))
 
 pub next_spec : {M : Type 1} → statement M
 next_spec =
@@ -18,9 +18,9 @@ next_spec =
     (λ c κs. tt)
     (λ c. search rules)
     (λ c. search rules)
-    (λ c κs. (asks_enough _ _).reads NEXT _ _ refl (verdict c.before.before.before.ask.ensures c.before.enum_told.given.1))
+    (λ c κs. (asks_enough _ _).reads NEXT _ _ refl (verdict c.ask.ensures c.in_default.is))
     (λ c κs. tt)
     (λ c. search rules)
     returns
     (λ c. search rules)
-    (λ c. refused _ _ _ NEXT (verdict c.before.before.before.ask.ensures c.before.q.given.1)))
+    (λ c. refused _ _ _ NEXT (verdict c.ask.ensures c.in-No.is)))

@@ -7,13 +7,13 @@ use Rattle.families.proofs.Verdicts.{verdict}
 use Rattle.families.proofs.object_length.Statement.{statement}
 use Rattle.families.proofs.object_length.Tie as tie
 
-returns : tie.Need-returns
+returns : tie.Need-returns-in_default
 unfolding measured unless_refused
-returns c = rw (c.object-length.ensures, verdict c.before.before.before.asked-of-all.ensures c.before.enum_told.given.1)
+returns c = rw (c.object_length.ensures, verdict c.asked_of_all.ensures c.in_default.is)
 
-returns-2 : tie.Need-returns-2
+returns-2 : tie.Need-returns
 unfolding measured unless_refused
-returns-2 c = rw (verdict c.before.before.before.asked-of-all.ensures c.before.q.given.1)
+returns-2 c = rw (verdict c.asked_of_all.ensures c.in-No.is)
 
 pub object_length_spec : {M : Type 1} → statement M
 object_length_spec =
@@ -22,6 +22,6 @@ object_length_spec =
     (λ c κs. search rules)
     (λ c. search rules)
     (λ c. search rules)
-    (λ c κs. allowed-asked _ _ (verdict c.before.before.asked-of-all.ensures c.enum_told.given.1))
+    (λ c κs. allowed-asked _ _ (verdict c.asked_of_all.ensures c.in_default.is))
     returns
     returns-2)

@@ -13,12 +13,11 @@ use Rattle.families.proofs.rank.Tie as tie
 rank-requires : tie.Need-rank-requires
 unfolding asked is_in
 rank-requires c κs =
-    let pass = verdict c.before.before.ask.ensures c.enum_told.given.1 in
-    ((asks_enough _ _).reads RANK _ _ refl pass, fits-asked _ _ RANK _ _ refl pass)
+    let pass = verdict c.ask.ensures c.in_default.is in record { object_value = (asks_enough _ _).reads RANK _ _ refl pass; lists_bound = fits-asked _ _ RANK _ _ refl pass }
 
-returns : tie.Need-returns
+returns : tie.Need-returns-in_default
 unfolding act rank_of
-returns c = rw c.rank.ensures (acts _ _ _ RANK (verdict c.before.before.before.ask.ensures c.before.enum_told.given.1))
+returns c = rw c.rank.ensures (acts _ _ _ RANK (verdict c.ask.ensures c.in_default.is))
 
 pub rank_spec : {M : Type 1} → statement M
 rank_spec =
@@ -29,4 +28,4 @@ rank_spec =
     (λ c. search rules)
     rank-requires
     returns
-    (λ c. refused _ _ _ RANK (verdict c.before.before.before.ask.ensures c.before.q.given.1)))
+    (λ c. refused _ _ _ RANK (verdict c.ask.ensures c.in-No.is)))

@@ -10,10 +10,10 @@ use Rattle.families.proofs.CountAnswers.{is_beyond}
 use Rattle.families.proofs.rank_below.Statement.{statement}
 use Rattle.families.proofs.rank_below.Tie as tie
 
-returns-2 : tie.Need-returns-2
+returns-2 : tie.Need-returns
 unfolding count_of
 returns-2 c =
-    let none = not-asked _ _ (verdict c.before.before.asked-of-all.ensures c.enum_told.given.1) in
+    let none = not-asked _ _ (verdict c.asked_of_all.ensures c.in-No.is) in
     rw (not-allowed _ _ none) (sym (is_beyond _ 0 (omega arith) (omega arith)))
 
 pub rank_below_spec : {M : Type 1} → statement M
@@ -23,7 +23,7 @@ rank_below_spec =
     (λ c κs. search rules)
     (λ c. search rules)
     (λ c. search rules)
-    (λ c κs. allowed-asked _ _ (verdict c.before.before.asked-of-all.ensures c.enum-told2.given.1))
+    (λ c κs. allowed-asked _ _ (verdict c.asked_of_all.ensures c.in_default.is))
     (λ c κs. search rules)
-    (λ c. c.size-verdict.ensures ∙ c.before.rank-size.ensures)
+    (λ c. c.size_verdict.ensures ∙ c.rank_size.ensures)
     returns-2)

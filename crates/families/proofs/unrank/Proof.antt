@@ -14,11 +14,10 @@ use Rattle.families.proofs.unrank.Tie as tie
 unrank-requires : tie.Need-unrank-requires
 unfolding count_of asked is_in
 unrank-requires c κs =
-    let pass = verdict c.before.before.before.ask.ensures c.before.enum_told.given.1 in
-    (admitted _ _ (UNRANK _) _ _ pass, (fits-asked _ _ (UNRANK _) _ _ refl pass, ((asks_enough _ _).sized (UNRANK _) _ _ refl pass, omega (arith, (asks_enough _ _).below _ _ _ pass))))
+    let pass = verdict c.ask.ensures c.in_default.is in record { lists_value = admitted _ _ (UNRANK _) _ _ pass; lists_bound = fits-asked _ _ (UNRANK _) _ _ refl pass; object_len = (asks_enough _ _).sized (UNRANK _) _ _ refl pass; rank_bound = omega (arith, (asks_enough _ _).below _ _ _ pass) }
 
-returns : tie.Need-returns
-returns c = writes_ranked _ _ _ _ c.before.before.unrank.ensures (verdict c.before.before.before.before.before.before.ask.ensures c.before.before.before.before.enum_told.given.1)
+returns : tie.Need-returns-in_default
+returns c = writes_ranked _ _ _ _ c.unrank.ensures (verdict c.ask.ensures c.in_default.is)
 
 pub unrank_spec : {M : Type 1} → statement M
 unrank_spec =
@@ -31,4 +30,4 @@ unrank_spec =
     (λ c. search rules)
     returns
     (λ c. search rules)
-    (λ c. refused _ _ _ (UNRANK _) (verdict c.before.before.before.ask.ensures c.before.q.given.1)))
+    (λ c. refused _ _ _ (UNRANK _) (verdict c.ask.ensures c.in-No.is)))

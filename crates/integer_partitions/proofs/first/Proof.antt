@@ -10,25 +10,25 @@ use Rattle.integer_partitions.proofs.first.Statement.{statement}
 use Rattle.integer_partitions.proofs.first.Tie as tie
 
 -- one part, and all but one, take no more room than all
-room : (c : tie.Else1) → let a = c.before.before.args in (a.floor ≤ a.n) × ((length a.object.now - 1) * a.floor ≤ a.n)
+room : (c : tie.Else-k-eq0) → let a = c.args in (a.floor ≤ a.n) × ((length a.object.now - 1) * a.floor ≤ a.n)
 room c =
-    let a = c.before.before.args in
-    let some : 1 ≤ length a.object.now = omega (arith, c.if1.false) in
+    let a = c.args in
+    let some : 1 ≤ length a.object.now = omega (arith, c.if-k-eq0.false) in
     let less : length a.object.now - 1 ≤ length a.object.now = omega arith in
-    omega (arith, c.before.before.requires.0, mul-le-mul_right a.floor some, mul-le-mul_right a.floor less)
+    omega (arith, c.requires.n_le_places, mul-le-mul_right a.floor some, mul-le-mul_right a.floor less)
 
-returns-2 : tie.Need-returns-2
+returns-2 : tie.Need-returns
 returns-2 c =
     let s = c.before.before.before.before.before.before in
     let a = s.args in
-    rw c.before.before.fill-with.ensures (first-is a.floor a.n (length a.object.now) (omega (arith, c.before.before.before.before.if1.false)) (omega (arith, s.requires.0)))
+    rw c.fill_with.ensures (first-is a.floor a.n (length a.object.now) (omega (arith, c.if-k-eq0.false)) (omega (arith, s.requires.n_le_places)))
 
 pub first_spec : {M : Type 1} → statement M
 first_spec =
     tie.close
     (tie.spec
-    (λ c. let s = c.before.before in (empty_ends s.args.floor s.args.n s.args.object.now c.if1.true (s.requires.1 c.if1.true)).0)
-    (λ c. omega (arith, room c.before, c.before.before.before.requires.0))
+    (λ c. let s = c.before.before in (empty_ends s.args.floor s.args.n s.args.object.now c.if-k-eq0.true (s.requires.n_value c.if-k-eq0.true)).0)
+    (λ c. omega (arith, room c.before, c.requires.n_le_places))
     (λ c κs. search rules)
     (λ c. search rules)
     (λ c. omega (arith, room c.before.before.before.before))

@@ -12,33 +12,33 @@ use Rattle.integer_partitions.proofs.last.Statement.{statement}
 use Rattle.integer_partitions.proofs.last.Tie as tie
 
 -- the larger parts are some of the parts
-within : (c : tie.After-fill-with) → let a = c.before.before.before.before.args in a.n % length a.object.now ≤ length c.fill-with.new.0
+within : (c : tie.After-fill_with) → let a = c.args in a.n % length a.object.now ≤ length c.fill_with.new.part
 within c =
-    let a = c.before.before.before.before.args in
-    let some : 0 < length a.object.now = omega (arith, c.before.before.if1.false) in
-    omega (arith, c.fill-with.auto.0, mod-lt a.n some)
+    let a = c.args in
+    let some : 0 < length a.object.now = omega (arith, c.if-k-eq0.false) in
+    omega (arith, c.fill_with.auto.part, mod-lt a.n some)
 
-returns-2 : tie.Need-returns-2
+returns-2 : tie.Need-returns
 returns-2 c =
     let w = c.before.before.before.before.before.before in
     let s = w.before.before.before.before in
     let a = s.args in
     let k : ℕ = length a.object.now in
-    let larger : c.before.before.fill-with2.new.0 ≡ replicate (a.n % k) (a.n / k + 1) = c.before.before.fill-with2.ensures ∙ ap (λ (m : ℕ). replicate m (a.n / k + 1)) (length-take-le _ _ (within w)) in
-    rw (larger, w.fill-with.ensures) (last-is a.floor a.n k (omega (arith, w.before.before.if1.false)) (omega (arith, s.requires.0)))
+    let larger : c.fill_with-2.new.part ≡ replicate (a.n % k) (a.n / k + 1) = c.fill_with-2.ensures ∙ ap (λ (m : ℕ). replicate m (a.n / k + 1)) (length-take-le _ _ (within w)) in
+    rw (larger, w.fill_with.ensures) (last-is a.floor a.n k (omega (arith, w.if-k-eq0.false)) (omega (arith, s.requires.n_le_places)))
 
 pub last_spec : {M : Type 1} → statement M
 last_spec =
     tie.close
     (tie.spec
-    (λ c. let s = c.before.before in (empty_ends s.args.floor s.args.n s.args.object.now c.if1.true (s.requires.1 c.if1.true)).1)
+    (λ c. let s = c.before.before in (empty_ends s.args.floor s.args.n s.args.object.now c.if-k-eq0.true (s.requires.n_value c.if-k-eq0.true)).1)
     (λ c. search rules)
     (λ c. search rules)
-    (λ c. let s = c.before.before in omega (arith, s.requires.0, div-le_self s.args.n (length s.args.object.now)))
+    (λ c. let s = c.before.before in omega (arith, s.requires.n_le_places, div-le_self s.args.n (length s.args.object.now)))
     (λ c κs. search rules)
     (λ c. within c.before.before)
     (λ c. sym (length-take-le _ _ (within c.before.before.before)))
-    (λ c. let s = c.before.before.before.before.before.before.before in omega (arith, s.requires.0, div-le_self s.args.n (length s.args.object.now)))
+    (λ c. let s = c.before.before.before.before.before.before.before in omega (arith, s.requires.n_le_places, div-le_self s.args.n (length s.args.object.now)))
     (λ c κs. search rules)
     (λ c. search rules)
     returns-2)

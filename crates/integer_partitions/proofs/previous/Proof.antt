@@ -12,16 +12,16 @@ use Rattle.integer_partitions.proofs.previous.Statement.{statement}
 use Rattle.integer_partitions.proofs.previous.Tie as tie
 
 -- the part that goes down
-here : (c : tie.Else1) → let x = c.before.before.before.before.args.object.now in let i = c.before.part-to-lower.result in Moved x i (get_or x i 0 - 1) (total (take i x) + 1)
-here c = lowered _ _ _ _ c.before.before.before.before.requires.1 c.before.before.before.before.requires.0 c.before.part-to-lower.ensures c.if1.false
+here : (c : tie.Else-i-object) → let x = c.args.object.now in let i = c.part_to_lower-i.result in Moved x i (get_or x i 0 - 1) (total (take i x) + 1)
+here c = lowered _ _ _ _ c.requires.object_value c.requires.n_le_places c.part_to_lower-i.ensures c.if-i-object.false
 
-returns-2 : tie.Need-returns-2
+returns-2 : tie.Need-returns
 returns-2 c =
     let w = c.before.before.before.before in
     let e = w.before.before.before.before in
     previous_steps (lists _ _ _)
-    (lowers _ _ _ _ e.before.before.before.before.requires.1 e.before.part-to-lower.ensures (here e).inside c.before.before.last.new.1.1.0 c.before.before.last.auto.1.1.0
-    (rw (w.wide.ensures, w.before.sum.ensures) at c.before.before.last.ensures))
+    (lowers _ _ _ _ e.requires.object_value e.part_to_lower-i.ensures (here e).inside c.last.new.object c.last.auto.object
+    (rw (w.wide.ensures, w.sum-others.ensures) at c.last.ensures))
 
 pub previous_spec : {M : Type 1} → statement M
 previous_spec =
@@ -29,17 +29,17 @@ previous_spec =
     (tie.spec
     (λ c κs. search rules)
     (λ c. search rules)
-    (λ c. previous_ends (lists _ _ _) (none-falls _ _ _ _ c.before.before.before.before.requires.1 c.before.part-to-lower.ensures c.if1.true))
+    (λ c. previous_ends (lists _ _ _) (none-falls _ _ _ _ c.requires.object_value c.part_to_lower-i.ensures c.if-i-object.true))
     (λ c. search rules)
     (λ c. omega (arith, here c.before))
     (λ c. search rules)
-    (λ c. (here c.before.before).front)
-    (λ c κs. omega (arith, here c.before.before))
-    (λ c. omega (arith, c.sum.ensures, here c.before.before.before))
+    (λ c. (here c.before).front)
+    (λ c κs. omega (arith, here c.before))
+    (λ c. omega (arith, c.sum-others.ensures, here c.before.before))
     (λ c κs. search rules)
     (λ c. search rules)
-    (λ c. (here c.before.before.before.before.before).front)
-    (λ c κs. let h = here c.before.before.before.before.before in rw (c.before.wide.ensures, c.before.before.sum.ensures) (h.room, h.none))
+    (λ c. (here c.before.before.before.before).front)
+    (λ c κs. let h = here c.before.before.before.before in rw (c.wide.ensures, c.sum-others.ensures) (h.room, h.none))
     (λ c. search rules)
     (λ c. search rules)
     returns-2)

@@ -12,22 +12,22 @@ use Rattle.integer_partitions.proofs.Small.{small_over}
 use Rattle.integer_partitions.proofs.rank.Statement.{statement}
 use Rattle.integer_partitions.proofs.rank.Tie as tie
 
-abbrev invariant-loop : tie.invariant-loop
+abbrev invariant-loop : tie.invariant-loop-k
 invariant-loop floor n object earlier₀ least₀ left₀ k₀ earlier least left k = Ranking floor n object earlier least left k
 
-abbrev decreases-loop : tie.decreases-loop
+abbrev decreases-loop : tie.decreases-loop-k
 decreases-loop floor n object earlier₀ least₀ left₀ k₀ earlier least left k = k
 
-loop-again : tie.Need-loop-preserved invariant-loop decreases-loop
-loop-again c = ranking_on c.before.before.before.before.loop.invariant (omega arith) c.before.wide.ensures c.with-smaller.ensures
+loop-again : tie.Need-loop-k-preserved invariant-loop decreases-loop
+loop-again c = ranking_on c.loop-k.invariant (omega arith) c.wide-p.ensures c.with_smaller-earlier.ensures
 
 -- what is counted so far is at most the rank, which fits
-add-earlier : tie.Need-overflow-add-earlier invariant-loop decreases-loop
+add-earlier : tie.Need-overflow_add-earlier invariant-loop decreases-loop
 add-earlier c =
     let s = c.before.before.before.before.before.before in
     let a = s.args in
     let x = a.object.now in
-    record { fits = omega (arith, (loop-again c).sum, rank_below (lists a.floor a.n (length x)) x s.requires.1, counted a.floor a.n (length x), small_over a.floor a.n (length x) (omega arith) (omega arith)) }
+    record { fits = omega (arith, (loop-again c).sum, rank_below (lists a.floor a.n (length x)) x s.requires.object_value, counted a.floor a.n (length x), small_over a.floor a.n (length x) (omega arith) (omega arith)) }
 
 pub rank_spec : {M : Type 1} → statement M
 rank_spec =
@@ -35,14 +35,14 @@ rank_spec =
     (tie.spec
     invariant-loop
     decreases-loop
-    (λ c. let a = c.before.args in ranking a.floor a.n a.object.now (omega arith) c.before.requires.1)
+    (λ c. let a = c.args in ranking a.floor a.n a.object.now (omega arith) c.requires.object_value)
     (λ c. omega arith)
-    (λ c. omega (arith, c.before.before.loop.invariant))
+    (λ c. omega (arith, c.loop-k.invariant))
     (λ c κs. search rules)
-    (λ c κs. let s = c.before.before.before.before.before in omega (arith, s.requires.0, c.wide.ensures, last_of c.before.before.before.loop.invariant (omega arith), few _ _ _ _ s.requires.0.1 s.requires.1))
+    (λ c κs. let s = c.before.before.before.before.before in record { floor_nonzero = omega (arith, s.requires.n_le_places, c.wide-p.ensures, last_of c.loop-k.invariant (omega arith), few _ _ _ _ s.requires.n_le_places.1 s.requires.object_value); floor_le_p = omega (arith, s.requires.n_le_places, c.wide-p.ensures, last_of c.loop-k.invariant (omega arith), few _ _ _ _ s.requires.n_le_places.1 s.requires.object_value) })
     add-earlier
-    (λ c. omega (arith, c.before.wide.ensures, last_of c.before.before.before.before.loop.invariant (omega arith)))
+    (λ c. omega (arith, c.wide-p.ensures, last_of c.loop-k.invariant (omega arith)))
     (λ c. omega arith)
     (λ c. omega arith)
     loop-again
-    (λ c. let e : c.before.loop.k ≡ 0 = omega (arith, c.loop-test.false) in ranked (rw e at c.before.loop.invariant)))
+    (λ c. let e : c.loop-k.k ≡ 0 = omega (arith, c.loop-k-test.false) in ranked (rw e at c.loop-k.invariant)))

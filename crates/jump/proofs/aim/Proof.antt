@@ -12,40 +12,40 @@ use Rattle.jump.proofs.Signs.{below_zero, not_below_zero}
 use Rattle.jump.proofs.aim.Statement.{statement}
 use Rattle.jump.proofs.aim.Tie as tie
 
-returns : tie.Need-returns
+returns : tie.Need-returns-then-rank-less
 returns c =
-    let a = c.before.before.before.args in
-    let fits = c.before.before.before.ranges in
-    before-first a.rank (2 ^ 64) c.before.backward.result (sym (to_z-of_z w64 a.d fits.d) ∙ c.before.backward.ensures) fits.rank.fits (omega (arith, c.if2.true))
+    let a = c.args in
+    let fits = c.ranges in
+    before-first a.rank (2 ^ 64) c.backward-less.result (sym (to_z-of_z w64 a.d fits.d) ∙ c.backward-less.ensures) fits.rank.fits (omega (arith, c.if-rank-less.true))
 
-returns-2 : tie.Need-returns-2
+returns-2 : tie.Need-returns-then-d-lt0
 returns-2 c =
-    let a = c.before.before.before.args in
-    let fits = c.before.before.before.ranges in
-    back_to a.rank (2 ^ 64) c.before.backward.result (sym (to_z-of_z w64 a.d fits.d) ∙ c.before.backward.ensures) fits.rank.fits (omega (arith, c.if2.false))
+    let a = c.args in
+    let fits = c.ranges in
+    back_to a.rank (2 ^ 64) c.backward-less.result (sym (to_z-of_z w64 a.d fits.d) ∙ c.backward-less.ensures) fits.rank.fits (omega (arith, c.if-rank-less.false))
 
-returns-3 : tie.Need-returns-3
+returns-3 : tie.Need-returns-then-rank-more
 returns-3 c =
-    let a = c.before.before.before.args in
-    let fits = c.before.before.before.ranges in
-    behind_last a.rank (2 ^ 64) c.before.forward.result (sym (to_z-of_z w64 a.d fits.d) ∙ c.before.forward.ensures) (omega (arith, c.if3.true, fits.rank.fits))
+    let a = c.args in
+    let fits = c.ranges in
+    behind_last a.rank (2 ^ 64) c.forward-more.result (sym (to_z-of_z w64 a.d fits.d) ∙ c.forward-more.ensures) (omega (arith, c.if-rank-more.true, fits.rank.fits))
 
-returns-4 : tie.Need-returns-4
+returns-4 : tie.Need-returns
 returns-4 c =
-    let a = c.before.before.before.args in
-    let fits = c.before.before.before.ranges in
-    on_to a.rank (2 ^ 64) c.before.forward.result (sym (to_z-of_z w64 a.d fits.d) ∙ c.before.forward.ensures) (omega (arith, c.if3.false, fits.rank.fits))
+    let a = c.args in
+    let fits = c.ranges in
+    on_to a.rank (2 ^ 64) c.forward-more.result (sym (to_z-of_z w64 a.d fits.d) ∙ c.forward-more.ensures) (omega (arith, c.if-rank-more.false, fits.rank.fits))
 
 pub aim_spec : {M : Type 1} → statement M
 aim_spec =
     tie.close
     (tie.spec
-    (λ c κs. below_zero (to_z w64 (of_z w64 c.before.args.d)) c.if1.true)
+    (λ c κs. below_zero (to_z w64 (of_z w64 c.args.d)) c.if-d-lt0.true)
     returns
     (λ c. search rules)
     (λ c. search rules)
     returns-2
-    (λ c κs. not_below_zero (to_z w64 (of_z w64 c.before.args.d)) c.if1.false)
+    (λ c κs. not_below_zero (to_z w64 (of_z w64 c.args.d)) c.if-d-lt0.false)
     (λ c. search rules)
     returns-3
     (λ c. search rules)

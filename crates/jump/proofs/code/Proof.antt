@@ -5,17 +5,23 @@ use borrow.Author.Rules.{rules}
 use Rattle.jump.proofs.code.Statement.{statement}
 use Rattle.jump.proofs.code.Tie as tie
 
-returns : tie.Need-returns
+returns : tie.Need-returns-in-Written
 unfolding code_of
 returns c = search rules
 
-returns-2 : tie.Need-returns-2
+returns-2 : tie.Need-returns-in-End
 unfolding code_of
 returns-2 c = search rules
 
-returns-3 : tie.Need-returns-3
+returns-3 : tie.Need-returns-in-Refused
 unfolding code_of
 returns-3 c = search rules
 
 pub code_spec : {M : Type 1} → statement M
-code_spec = tie.close (tie.spec (λ c. search rules) (λ c. search rules) (λ c. search rules) returns returns-2 returns-3)
+code_spec = tie.close (tie.spec
+    (λ c. search rules)
+    (λ c. search rules)
+    (λ c. search rules)
+    returns
+    returns-2
+    returns-3)

@@ -10,14 +10,13 @@ use borrow.Author.Rules.{rules}
 use Rattle.jump.proofs.jump.Statement.{statement}
 use Rattle.jump.proofs.jump.Tie as tie
 
-jump-from-requires : tie.Need-jump-from-requires
-jump-from-requires c κs =
-    rank_told _ _ _ (sym (rw (ap ranked_as c.before.before.answer.given.1) at c.before.before.before.before.rank.ensures))
+jump-from-requires : tie.Need-jump_from-requires
+jump-from-requires c κs =let the_whole = rank_told _ _ _ (sym (rw (ap ranked_as c.in-Rank.is) at c.rank-answer.ensures)) in record { object_value = the_whole.0; object_value_2 = the_whole.1 }
 
-returns : tie.Need-returns
+returns : tie.Need-returns-in-Rank
 returns c =
-    let s = c.before.before.before.before.before.before.before.before.before.before in
-    rw (to_z-of_z w64 s.args.d s.ranges.d) at c.before.before.jump-from.ensures
+    let s = c.before.before.before.before.before.before.before in
+    rw (to_z-of_z w64 s.args.d s.ranges.d) at c.jump_from.ensures
 
 pub jump_spec : {M : Type 1} → statement M
 jump_spec =
@@ -30,4 +29,4 @@ jump_spec =
     (λ c. search rules)
     returns
     (λ c. search rules)
-    (λ c. refused_so _ _ _ _ (ap ranked_as c.before.answer2.given.1) c.before.before.before.rank.ensures))
+    (λ c. refused_so _ _ _ _ (ap ranked_as c.in-Refused.is) c.rank-answer.ensures))

@@ -13,23 +13,23 @@ use Rattle.jump.proofs.jump_from.Statement.{statement}
 use Rattle.jump.proofs.jump_from.Tie as tie
 
 -- the rank aimed at, or none
-aimed : (c : tie.After-aim) → let a = c.before.before.args in goal_as c.aim.result ≡ target a.rank (2 ^ 64) a.d
+aimed : (c : tie.After-aim) → let a = c.args in goal_as c.aim.result ≡ target a.rank (2 ^ 64) a.d
 aimed c = let s = c.before.before in c.aim.ensures ∙ ap (target _ (2 ^ 64)) (to_z-of_z w64 s.args.d s.ranges.d)
 
-returns : tie.Need-returns
-returns c = let e = c.before.before in let s = e.before.before in off _ _ _ _ s.requires.0 s.requires.1 (sym (ap goal_as c.enum_told.given.1) ∙ aimed e)
+returns : tie.Need-returns-in_default
+returns c = let e = c.before in let s = e.before.before in off _ _ _ _ s.requires.object_value s.requires.object_value_2 (sym (ap goal_as c.in_default.is) ∙ aimed e)
 
-returns-2 : tie.Need-returns-2
+returns-2 : tie.Need-returns-in-Done
 returns-2 c =
-    let u = c.before.before.before.before in let t = u.before.before.before in
+    let u = c.before.before.before in let t = u.before.before in
     let e = t.before.before in let s = e.before.before in
-    landed _ _ _ _ s.requires.0 s.requires.1 (sym (ap goal_as t.to.given.1) ∙ aimed e) (ap written_as c.enum-told2.given.1) u.unrank.ensures
+    landed _ _ _ _ s.requires.object_value s.requires.object_value_2 (sym (ap goal_as t.in-At.is) ∙ aimed e.before) (ap written_as c.in-Done.is) u.unrank-answer.ensures
 
-returns-3 : tie.Need-returns-3
+returns-3 : tie.Need-returns-in-Refused
 returns-3 c =
-    let u = c.before.before.before.before in let t = u.before.before.before in
+    let u = c.before.before.before in let t = u.before.before in
     let e = t.before.before in let s = e.before.before in
-    ended _ _ _ _ s.requires.0 s.requires.1 (sym (ap goal_as t.to.given.1) ∙ aimed e) (ap written_as c.enum-told3.given.1) u.unrank.ensures
+    ended _ _ _ _ s.requires.object_value s.requires.object_value_2 (sym (ap goal_as t.in-At.is) ∙ aimed e.before) (ap written_as c.in-Refused.is) u.unrank-answer.ensures
 
 pub jump_from_spec : {M : Type 1} → statement M
 jump_from_spec =

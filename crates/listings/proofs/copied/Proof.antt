@@ -9,8 +9,12 @@ use Rattle.listings.proofs.copied.Statement.{statement}
 use Rattle.listings.proofs.copied.Tie as tie
 
 returns : tie.Need-returns
-returns c = let e = c.before.copy.ensures in (simp (length-append, length-drop) (omega (arith, ap length e)), take_at c.before.copy.new.0 _ (length c.before.before.before.before.args.bytes.now) (ap length e) ∙ e)
+returns c = let e = c.copy.ensures in (simp (length-append, length-drop) (omega (arith, ap length e)), take_at c.copy.new.part _ (length c.args.bytes.now) (ap length e) ∙ e)
 
 pub copied_spec : {M : Type 1} → statement M
 copied_spec =
-    tie.close (tie.spec (λ c. search rules) (λ c. simp length-take (omega arith)) (λ c κs. simp length-take (omega arith)) returns)
+    tie.close (tie.spec
+    (λ c. search rules)
+    (λ c. simp length-take (omega arith))
+    (λ c κs. simp length-take (omega arith))
+    returns)

@@ -10,30 +10,30 @@ use Rattle.listings.proofs.Fills.{filled, fill_none, fill_more, length-filled, f
 use Rattle.listings.proofs.copy.Statement.{statement}
 use Rattle.listings.proofs.copy.Tie as tie
 
-abbrev invariant-loop : tie.invariant-loop
+abbrev invariant-loop : tie.invariant-loop-i
 invariant-loop part₀ from i₀ part i = (i ≤ length part₀) × (part ≡ filled (λ i. get_or from i 0) i part₀)
 
-abbrev decreases-loop : tie.decreases-loop
+abbrev decreases-loop : tie.decreases-loop-i
 decreases-loop part₀ from i₀ part i = length part₀ - i
 
-kept : (c : tie.At-loop invariant-loop decreases-loop) → length c.loop.part ≡ length c.before.args.part.now
-kept c = ap length c.loop.invariant.1 ∙ length-filled (λ i. get_or c.before.args.from.now i 0) c.loop.i c.before.args.part.now c.loop.invariant.0
+kept : (c : tie.At-loop-i invariant-loop decreases-loop) → length c.loop-i.part ≡ length c.args.part.now
+kept c = ap length c.loop-i.invariant.1 ∙ length-filled (λ i. get_or c.args.from.now i 0) c.loop-i.i c.args.part.now c.loop-i.invariant.0
 
-loop-again : tie.Need-loop-preserved invariant-loop decreases-loop
+loop-again : tie.Need-loop-i-preserved invariant-loop decreases-loop
 loop-again c =
-    let a = c.before.before.before.args in
-    let i = c.before.before.loop.i in (
+    let a = c.args in
+    let i = c.loop-i.i in (
       omega (arith, kept c.before.before),
-      ap (λ (l : List ℕ). set l i (get_or a.from.now i 0)) c.before.before.loop.invariant.1
+      ap (λ (l : List ℕ). set l i (get_or a.from.now i 0)) c.loop-i.invariant.1
           ∙ fill_more (λ i. get_or a.from.now i 0) i a.part.now (omega (arith, kept c.before.before)),
     )
 
 returns : tie.Need-returns invariant-loop decreases-loop
 returns c =
-    let a = c.before.before.args in
-    c.before.loop.invariant.1
-    ∙ fill_all (λ i. get_or a.from.now i 0) c.before.loop.i a.part.now (omega (arith, kept c.before))
-    ∙ ap (λ (n : ℕ). map (λ i. get_or a.from.now i 0) (range 0 n)) c.before.before.requires
+    let a = c.args in
+    c.loop-i.invariant.1
+    ∙ fill_all (λ i. get_or a.from.now i 0) c.loop-i.i a.part.now (omega (arith, kept c.before))
+    ∙ ap (λ (n : ℕ). map (λ i. get_or a.from.now i 0) (range 0 n)) c.requires
     ∙ reading a.from.now
 
 pub copy_spec : {M : Type 1} → statement M

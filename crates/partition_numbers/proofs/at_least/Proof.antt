@@ -11,15 +11,15 @@ use Rattle.numbers.proofs.Laws.{floor_shift, too_few}
 use Rattle.partition_numbers.proofs.at_least.Statement.{statement}
 use Rattle.partition_numbers.proofs.at_least.Tie as tie
 
-mul-off : tie.Need-overflow-mul-off
+mul-off : tie.Need-overflow_mul-off
 mul-off c =
     let most : c.args.k ≤ places = omega arith in
     let byte : c.args.floor - 1 ≤ 256 = omega arith in
     omega (arith, mul-le-mul most byte)
 
-returns : tie.Need-returns
+returns : tie.Need-returns-then-n-off
 returns c =
-    let a = c.before.args in
+    let a = c.args in
     let less : a.floor - 1 ≤ a.floor = omega arith in
     sym (too_few a.floor a.n a.k (omega (arith, mul-le-mul_left a.k less)))
 
@@ -35,4 +35,4 @@ at_least_spec =
     mul-off
     returns
     (λ c κs. search rules)
-    (λ c. let a = c.before.before.args in c.partitions.ensures ∙ at_least_one a.floor a.n a.k (omega arith) (omega arith)))
+    (λ c. let a = c.args in c.partitions.ensures ∙ at_least_one a.floor a.n a.k (omega arith) (omega arith)))

@@ -7,10 +7,12 @@ use Rattle.partition_numbers.proofs.Rules.{same_number}
 use Rattle.partition_numbers.proofs.narrowed.Statement.{statement}
 use Rattle.partition_numbers.proofs.narrowed.Tie as tie
 
-returns : tie.Need-returns
+returns : tie.Need-returns-then-e-j
 returns c =
-    let a = c.before.args in
-    (omega arith, same_number a.e (a.e + a.e % 2) a.j (omega arith) (omega arith))
+    let a = c.args in record { result_value = omega arith; result_value_2 = same_number a.e (a.e + a.e % 2) a.j (omega arith) (omega arith) }
 
 pub narrowed_spec : {M : Type 1} → statement M
-narrowed_spec = tie.close (tie.spec (λ c. search rules) returns (λ c. search rules))
+narrowed_spec = tie.close (tie.spec
+    (λ c. search rules)
+    returns
+    (λ c.record { result_value = search rules; result_value_2 = search rules }))

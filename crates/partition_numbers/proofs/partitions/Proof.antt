@@ -10,37 +10,37 @@ use Rattle.partition_numbers.proofs.Rules.{one_read, two_reads}
 use Rattle.partition_numbers.proofs.partitions.Statement.{statement}
 use Rattle.partition_numbers.proofs.partitions.Tie as tie
 
-returns-2 : tie.Need-returns-2
+returns-2 : tie.Need-returns-then-e-k
 returns-2 c =
-    let a = c.before.before.before.before.args in
-    c.before.column.ensures ∙ one_read a.n a.k (omega arith) c.if3.true
+    let a = c.args in
+    c.column-v.ensures ∙ one_read a.n a.k (omega arith) c.if-e-k.true
 
-sub-result : tie.Need-overflow-sub-result
+sub-result : tie.Need-overflow_sub-result
 sub-result c =
-    let a = c.before.before.before.before.before.args in
-    omega (arith, c.column2.ensures, c.before.before.column.ensures, two_reads a.n a.k (omega arith) (omega arith))
+    let a = c.args in
+    omega (arith, c.column.ensures, c.column-v.ensures, two_reads a.n a.k (omega arith) (omega arith))
 
-returns-3 : tie.Need-returns-3
+returns-3 : tie.Need-returns-then-k-eq1
 returns-3 c =
-    let a = c.before.before.before.before.before.args in
-    omega (arith, c.column2.ensures, c.before.before.column.ensures, two_reads a.n a.k (omega arith) (omega arith))
+    let a = c.args in
+    omega (arith, c.column.ensures, c.column-v.ensures, two_reads a.n a.k (omega arith) (omega arith))
 
-returns-5 : tie.Need-returns-5
+returns-5 : tie.Need-returns-then-k-eq0
 returns-5 c =
-    let a = c.before.before.before.before.args in
-    sym (ap (partitions_of a.n) c.before.if4.true ∙ partitions_zero a.n (omega (arith, c.if5.false)))
+    let a = c.args in
+    sym (ap (partitions_of a.n) c.if-k-eq0.true ∙ partitions_zero a.n (omega (arith, c.if-n-eq0.false)))
 
-returns-6 : tie.Need-returns-6
+returns-6 : tie.Need-returns
 returns-6 c =
-    let a = c.before.before.before.before.args in
+    let a = c.args in
     let whole : a.n - a.k + a.k ≡ a.n = omega arith in
-    c.column3.ensures ∙ ap (λ (n : ℕ). partitions_of n a.k) whole
+    c.column-2.ensures ∙ ap (λ (n : ℕ). partitions_of n a.k) whole
 
 pub partitions_spec : {M : Type 1} → statement M
 partitions_spec =
     tie.close
     (tie.spec
-    (λ c. let a = c.before.args in sym (partitions_none a.n a.k c.if1.true))
+    (λ c. let a = c.args in sym (partitions_none a.n a.k c.if-n-k.true))
     (λ c. search rules)
     (λ c κs. search rules)
     (λ c. search rules)
@@ -51,7 +51,7 @@ partitions_spec =
     (λ c κs. search rules)
     sub-result
     returns-3
-    (λ c. sym (ap₂ partitions_of c.if5.true c.before.if4.true ∙ partitions_corner))
+    (λ c. sym (ap₂ partitions_of c.if-n-eq0.true c.if-k-eq0.true ∙ partitions_corner))
     returns-5
     (λ c κs. search rules)
     returns-6)

@@ -8,15 +8,25 @@ use Rattle.partition_numbers.proofs.Tested.{spot, worked_out, InPlace, in_place}
 use Rattle.partition_numbers.proofs.stored.Statement.{statement}
 use Rattle.partition_numbers.proofs.stored.Tie as tie
 
-placed : (c : tie.Else1) → InPlace c.before.args.e c.before.args.j
-placed c = in_place c.before.args.e c.before.args.j c.before.requires (omega arith)
+placed : (c : tie.Else-j-lt4) → InPlace c.args.e c.args.j
+placed c = in_place c.args.e c.args.j c.requires (omega arith)
 
-returns-2 : tie.Need-returns-2
+returns-2 : tie.Need-returns
 returns-2 c =
-    let a = c.before.before.args in
+    let a = c.args in
     ap (λ (w : ℕ). w / 2 ^ (21 * ((spot a.e a.j - 161) / 256)) % 2097152) c.word.ensures ∙ (placed c.before).there
 
 pub stored_spec : {M : Type 1} → statement M
 stored_spec =
     tie.close
-    (tie.spec (λ c. search rules) (λ c. let a = c.before.args in worked_out a.e a.j c.before.requires c.if1.true) (λ c. search rules) (λ c. record { fits = omega (arith, (placed c).below) }) (λ c. record { fits = omega (arith, (placed c).below) }) (λ c. (placed c).from) (λ c κs. search rules) (λ c. record { fits = omega (arith, (placed c.before).below) }) (λ c. omega (arith, (placed c.before).below)) returns-2)
+    (tie.spec
+    (λ c. search rules)
+    (λ c. let a = c.args in worked_out a.e a.j c.requires c.if-j-lt4.true)
+    (λ c. search rules)
+    (λ c. record { fits = omega (arith, (placed c).below) })
+    (λ c. record { fits = omega (arith, (placed c).below) })
+    (λ c. (placed c).from)
+    (λ c κs. search rules)
+    (λ c. record { fits = omega (arith, (placed c.before).below) })
+    (λ c. omega (arith, (placed c.before).below))
+    returns-2)

@@ -10,14 +10,14 @@ use Rattle.pascal.proofs.Tested.{ruled}
 use Rattle.pascal.proofs.entry.Statement.{statement}
 use Rattle.pascal.proofs.entry.Tie as tie
 
-read-or-climb-requires : tie.Need-read-or-climb-requires
+read-or-climb-requires : tie.Need-read_or_climb-requires
 unfolding same rows step
-read-or-climb-requires c κs = ((omega arith, (omega arith, c.before.before.requires.1)), ruled _ refl)
+read-or-climb-requires c κs =record { n_le_places = (omega arith, (omega arith, c.requires.1)); triangle = ruled _ refl }
 
 pub entry_spec : {M : Type 1} → statement M
 entry_spec =
     tie.close
     (tie.spec
-    (λ c. sym (choose-none c.before.args.n c.before.args.k c.if1.true))
+    (λ c. sym (choose-none c.args.n c.args.k c.if-n-k.true))
     read-or-climb-requires
     (λ c. search rules))

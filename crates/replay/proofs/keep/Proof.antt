@@ -7,9 +7,16 @@ use Rattle.replay.proofs.keep.Statement.{statement}
 use Rattle.replay.proofs.keep.Tie as tie
 
 returns : tie.Need-returns
-returns c = rw c.before.before.copy.ensures (stored c.before.before.before.before.before.before.args.at c.before.before.before.before.before.before.args.trail.now c.before.before.before.before.before.before.args.object.now _ (omega arith))
+returns c = rw c.copy.ensures (stored c.args.at c.args.trail.now c.args.object.now _ (omega arith))
 
 pub keep_spec : {M : Type 1} → statement M
 keep_spec =
     tie.close
-    (tie.spec (λ c. search rules) (λ c. search rules) (λ c. search rules) (λ c. search rules) (λ c κs. search rules) (λ c. search rules) returns)
+    (tie.spec
+    (λ c. search rules)
+    (λ c. search rules)
+    (λ c. search rules)
+    (λ c. search rules)
+    (λ c κs. search rules)
+    (λ c. search rules)
+    returns)

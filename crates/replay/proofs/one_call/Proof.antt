@@ -8,24 +8,24 @@ use borrow.Author.Rules.{rules}
 use Rattle.replay.proofs.one_call.Statement.{statement}
 use Rattle.replay.proofs.one_call.Tie as tie
 
-abbrev start : tie.Else2 → tie.Start
+abbrev start : tie.Else-call-eq3 → tie.Start
 start c = c.before.before.before
 
-returns : tie.Need-returns
+returns : tie.Need-returns-then-call-eq2
 unfolding call_of
-returns c = let t = c.before.before.before.before.before in coding _ _ _ _ (ap (λ (n : ℕ). call_of n t.before.before.args.rank) t.if1.true) c.before.before.before.last.ensures c.written.ensures
+returns c = let t = c.before.before.before.before.before in coding _ _ _ _ (ap (λ (n : ℕ). call_of n t.args.rank) t.if-call-eq2.true) c.last.ensures c.written.ensures
 
-returns-2 : tie.Need-returns-2
+returns-2 : tie.Need-returns-then-call-eq3
 unfolding call_of
-returns-2 c = let t = c.before.before.before.before.before in coding _ _ _ _ (ap (λ (n : ℕ). call_of n t.before.before.before.args.rank) t.if2.true) c.before.before.before.next.ensures c.stepped.ensures
+returns-2 c = let t = c.before.before.before.before.before in coding _ _ _ _ (ap (λ (n : ℕ). call_of n t.args.rank) t.if-call-eq3.true) c.next.ensures c.stepped.ensures
 
-returns-3 : tie.Need-returns-3
+returns-3 : tie.Need-returns-then-call-eq4
 unfolding call_of
-returns-3 c = let t = c.before.before.before.before.before in coding _ _ _ _ (ap (λ (n : ℕ). call_of n (start t.before).args.rank) t.if3.true) c.before.before.before.previous.ensures c.stepped2.ensures
+returns-3 c = let t = c.before.before.before.before.before in coding _ _ _ _ (ap (λ (n : ℕ). call_of n (start t.before).args.rank) t.if-call-eq4.true) c.previous.ensures c.stepped-then-call-eq4.ensures
 
-returns-4 : tie.Need-returns-4
+returns-4 : tie.Need-returns-then-call-eq5
 unfolding call_of
-returns-4 c = let t = c.before.before.before.before.before in coding _ _ _ _ (ap (λ (n : ℕ). call_of n (start t.before.before).args.rank) t.if4.true) c.before.before.before.unrank.ensures c.written2.ensures
+returns-4 c = let t = c.before.before.before.before.before in coding _ _ _ _ (ap (λ (n : ℕ). call_of n (start t.before.before).args.rank) t.if-call-eq5.true) c.unrank.ensures c.written-then-call-eq5.ensures
 
 pub one_call_spec : {M : Type 1} → statement M
 one_call_spec =
@@ -50,4 +50,4 @@ one_call_spec =
     (λ c κs. search rules)
     (λ c κs. search rules)
     (λ c. search rules)
-    (λ c. let e = c.before.before.before.before.before in let d = e.before.before in let a = (start d).args in coding _ _ _ _ (otherwise_first a.call a.rank d.before.if1.false d.if2.false e.before.if3.false e.if4.false) c.before.before.before.first.ensures c.written3.ensures))
+    (λ c. let e = c.before.before.before.before.before in let d = e.before.before in let a = (start d).args in coding _ _ _ _ (otherwise_first a.call a.rank d.if-call-eq2.false d.if-call-eq3.false e.if-call-eq4.false e.if-call-eq5.false) c.first.ensures c.written-2.ensures))

@@ -13,13 +13,13 @@ use Rattle.replay.proofs.replay.Statement.{statement}
 use Rattle.replay.proofs.replay.Tie as tie
 
 -- past the tests: the buffers fit
-fit : (c : tie.Else4) → let a = c.before.before.before.before.before.before.before.before.before.before.before.args in Fit a.calls.now a.ranks.now a.f (lent (map (λ x. x.now) a.lists)) (buffers a.object.now a.answers.now a.trail.now)
+fit : (c : tie.Else-not-is_product) → let a = c.args in Fit a.calls.now a.ranks.now a.f (lent (map (λ x. x.now) a.lists)) (buffers a.object.now a.answers.now a.trail.now)
 fit c =
     record {
-      codes = let d = c.before.before.before.before in sym d.before.known.ensures ∙ not-false _ d.if1.false;
-      ranked = c.before.before.before.if2.false;
-      answered = c.before.before.if3.false;
-      room = eqb-true _ _ (sym c.before.is-product.ensures ∙ not-false _ c.if4.false);
+      codes = let d = c.before.before.before.before in sym d.known.ensures ∙ not-false _ d.if-not-known.false-raw;
+      ranked = c.if-ranks-calls.false;
+      answered = c.if-answers-calls.false;
+      room = eqb-true _ _ (sym c.is_product.ensures ∙ not-false _ c.if-not-is_product.false-raw);
     }
 
 pub replay_spec : {M : Type 1} → statement M
@@ -27,13 +27,13 @@ replay_spec =
     tie.close
     (tie.spec
     (λ c κs. search rules)
-    (λ c. refuses _ _ _ _ _ (λ p. true≢false (sym p.codes ∙ sym c.before.known.ensures ∙ not-true _ c.if1.true)))
+    (λ c. refuses _ _ _ _ _ (λ p. true≢false (sym p.codes ∙ sym c.known.ensures ∙ not-true _ c.if-not-known.true-raw)))
     (λ c. refuses _ _ _ _ _ (λ p. omega (arith, p.ranked)))
     (λ c. refuses _ _ _ _ _ (λ p. omega (arith, p.answered)))
     (λ c κs. search rules)
-    (λ c. refuses _ _ _ _ _ (λ p. eqb-false _ _ (sym c.before.is-product.ensures ∙ not-true _ c.if4.true) p.room))
-    (λ c κs. let p = fit c.before.before.before in (p.ranked, (p.answered, p.room)))
+    (λ c. refuses _ _ _ _ _ (λ p. eqb-false _ _ (sym c.is_product.ensures ∙ not-true _ c.if-not-is_product.true-raw) p.room))
+    (λ c κs. let p = fit c.before.before.before in record { ranked = p.ranked; answered = p.answered; room = p.room })
     (λ c. search rules)
     (λ c. search rules)
     (λ c. search rules)
-    (λ c. runs _ _ _ _ _ (fit c.before.before.before.before.before.before.before.before.before.before) c.before.before.before.before.before.before.run.ensures))
+    (λ c. runs _ _ _ _ _ (fit c.before.before.before.before.before.before.before.before.before.before) c.run.ensures))

@@ -30,40 +30,43 @@ abbrev claims : ℕ → rank-of-lts.Claims
 claims t = (earlier-reads.Asked, earlier-reads.Learnt, others-in-reads.Asked, others-in-reads.Learnt, back-by-reads.Asked, back-by-reads.Learnt, rank_of_below t, rank-of.Post)
 
 -- past the test for as many blocks as models
-module _ (t : ℕ) (c : rank-of-lts.Else1 (claims t) (rank_of_at t) rank-of.Post) where
+module _ (t : ℕ) (c : rank-of-lts.Else-n-k (claims t) (rank_of_at t) rank-of.Post) where
   abbrev edition : Edition
-  edition = edition_of c.before.args.edition
+  edition = edition_of c.args.edition
 
-  asked : let a = c.before.args in Asked a.n a.k a.keys.now
-  asked = record { fewer = c.if1.false; keyed = c.before.requires.1.1.0; fits = c.before.requires.1.0.1 }
+  asked : let a = c.args in Asked a.n a.k a.keys.now
+  asked = record { fewer = c.if-n-k.false; keyed = c.requires.1.keys_of; fits = c.requires.1.n_le_places.1 }
 
-  band : let a = c.before.args in InBand a.band.now a.w a.at a.n a.k
-  band = let a = c.before.args in in_band a.band.now a.w a.at a.n a.k (some_block edition asked) c.if1.false c.before.requires.1.1.1
+  band : let a = c.args in InBand a.band.now a.w a.at a.n a.k
+  band = let a = c.args in in_band a.band.now a.w a.at a.n a.k (some_block edition asked) c.if-n-k.false c.requires.1.reaches
 
-sum_is : (t : ℕ) (c : rank-of-lts.After-rank-of (claims t) (rank_of_at t) rank-of.Post) → let a = c.before.before.before.before.before.before.before.before.args in RankBy (edition_of a.edition) a.n a.k a.keys.now (c.before.before.before.earlier.result + c.rank-of.result)
+sum_is : (t : ℕ) (c : rank-of-lts.After-rank_of (claims t) (rank_of_at t) rank-of.Post) → let a = c.args in RankBy (edition_of a.edition) a.n a.k a.keys.now (c.earlier-before.result + c.rank_of.result)
 sum_is t c =
     let e = c.before.before.before.before.before.before.before in
-    summed (edition t e) (asked t e) c.before.before.others-in.ensures (band t e).numbers c.before.before.before.earlier.ensures c.rank-of.ensures
+    summed (edition t e.before.before) (asked t e.before.before) c.others_in.ensures (band t e.before.before).numbers c.earlier-before.ensures c.rank_of.ensures
 
 pub +rank_of_spec : {M : Type 1} → statement M
-+rank_of_spec = close μ-rank-of λ t. rank-of-lts.spec (claims t) (rank_of_at t) rank-of.Post
-    (λ c. let a = c.before.args in no_other (edition_of a.edition) a.n a.k a.keys.now c.if1.true)
-    (λ c. omega (arith, c.if1.false))
++rank_of_spec = close μ-rank-of λ t. rank-of-lts.spec
+    (claims t)
+    (rank_of_at t)
+    rank-of.Post
+    (λ c. let a = c.args in no_other (edition_of a.edition) a.n a.k a.keys.now c.if-n-k.true)
+    (λ c. omega (arith, c.if-n-k.false))
     (λ c. omega arith)
-    (λ c. omega (arith, key_upto (edition t c.before) (asked t c.before)))
-    (λ c. (band t c.before).one-before)
-    (λ c. omega (arith, (band t c.before).alone_within))
-    (λ c. (band t c.before).alone_within)
-    (λ c. (band t c.before.before).row_before)
-    (λ c. omega (arith, (band t c.before.before).joined-within))
-    (λ c. (band t c.before.before).joined-within)
-    (λ c κs. let e = c.before.before.before in before-fits (edition t e) (asked t e) (band t e).numbers)
-    (λ c κs. let e = c.before.before.before.before in some_block (edition t e) (asked t e))
+    (λ c. omega (arith, key_upto (edition t c.before.before) (asked t c.before.before)))
+    (λ c. (band t c.before.before).one-before)
+    (λ c. omega (arith, (band t c.before.before).alone_within))
+    (λ c. (band t c.before.before.before).alone_within)
+    (λ c. (band t c.before.before.before.before).row_before)
+    (λ c. omega (arith, (band t c.before.before.before.before).joined-within))
+    (λ c. (band t c.before.before.before.before).joined-within)
+    (λ c κs. let e = c.before.before.before in before-fits (edition t e.before.before) (asked t e.before.before) (band t e.before.before).numbers)
+    (λ c κs. let e = c.before.before.before.before in some_block (edition t e.before.before) (asked t e.before.before))
     (λ c κs. search rules)
-    (λ c. back-before (band t c.before.before.before.before.before.before) _ c.back_by.ensures)
+    (λ c. back-before (band t c.before.before.before.before.before.before.before.before) _ c.back_by.ensures)
     (λ c κs.
     let e = c.before.before.before.before.before.before in
-    let i = c.before.others-in.ensures in
-    (omega (arith, e.if1.false, e.before.requires.0), ((omega (arith, e.before.requires.1.0.0), others_fit (edition t e) (asked t e) i), (others_keyed (edition t e) (asked t e) i, others_reached (band t e) _ c.back_by.ensures i))))
-    (λ c. let e = c.before.before.before.before.before.before.before in omega (arith, rank_fits (edition t e) (asked t e) (sum_is t c)))
+    let i = c.others_in.ensures in
+    (omega (arith, e.if-n-k.false, e.requires.0), ((omega (arith, e.requires.1.n_le_places.0), others_fit (edition t e.before.before) (asked t e.before.before) i), (others_keyed (edition t e.before.before) (asked t e.before.before) i, others_reached (band t e.before.before) _ c.back_by.ensures i))))
+    (λ c. let e = c.before.before.before.before.before.before.before in omega (arith, rank_fits (edition t e.before.before) (asked t e.before.before) (sum_is t c)))
     (λ c. sum_is t c)

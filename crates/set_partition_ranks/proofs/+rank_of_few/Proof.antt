@@ -30,28 +30,31 @@ abbrev claims : ℕ → rank-of-few-lts.Claims
 claims t = (both-reads.Asked, both-reads.Learnt, earlier-reads.Asked, earlier-reads.Learnt, others-in-reads.Asked, others-in-reads.Learnt, rank_of_few_below t, rank-of-few.Post)
 
 -- past the test for as many blocks as models, and the sum
-abbrev edition : (t : ℕ) (c : rank-of-few-lts.Else1 (claims t) (rank_of_few_at t) rank-of-few.Post) → Edition
-edition t c = edition_of c.before.args.edition
+abbrev edition : (t : ℕ) (c : rank-of-few-lts.Else-n-k (claims t) (rank_of_few_at t) rank-of-few.Post) → Edition
+edition t c = edition_of c.args.edition
 
-asked : (t : ℕ) (c : rank-of-few-lts.Else1 (claims t) (rank_of_few_at t) rank-of-few.Post) → let a = c.before.args in Asked a.n a.k a.keys.now
-asked t c = record { fewer = c.if1.false; keyed = c.before.requires.1.1; fits = c.before.requires.1.0.1 }
+asked : (t : ℕ) (c : rank-of-few-lts.Else-n-k (claims t) (rank_of_few_at t) rank-of-few.Post) → let a = c.args in Asked a.n a.k a.keys.now
+asked t c = record { fewer = c.if-n-k.false; keyed = c.requires.1.keys_of; fits = c.requires.1.n_le_last_row.1 }
 
-sum_is : (t : ℕ) (c : rank-of-few-lts.After-rank-of-few (claims t) (rank_of_few_at t) rank-of-few.Post) → let a = c.before.before.before.before.before.before.args in RankBy (edition_of a.edition) a.n a.k a.keys.now (c.before.before.earlier.result + c.rank-of-few.result)
-sum_is t c = let e = c.before.before.before.before.before in summed (edition t e) (asked t e) c.before.others-in.ensures c.before.before.before.both.ensures c.before.before.earlier.ensures c.rank-of-few.ensures
+sum_is : (t : ℕ) (c : rank-of-few-lts.After-rank_of_few (claims t) (rank_of_few_at t) rank-of-few.Post) → let a = c.args in RankBy (edition_of a.edition) a.n a.k a.keys.now (c.earlier-before.result + c.rank_of_few.result)
+sum_is t c = let e = c.before.before.before.before.before in summed (edition t e.before) (asked t e.before) c.others_in.ensures c.both-numbers.ensures c.earlier-before.ensures c.rank_of_few.ensures
 
 pub +rank_of_few_spec : {M : Type 1} → statement M
-+rank_of_few_spec = close μ-rank-of-few λ t. rank-of-few-lts.spec (claims t) (rank_of_few_at t) rank-of-few.Post
-    (λ c. let a = c.before.args in no_other (edition_of a.edition) a.n a.k a.keys.now c.if1.true)
-    (λ c. omega (arith, c.if1.false))
++rank_of_few_spec = close μ-rank-of-few λ t. rank-of-few-lts.spec
+    (claims t)
+    (rank_of_few_at t)
+    rank-of-few.Post
+    (λ c. let a = c.args in no_other (edition_of a.edition) a.n a.k a.keys.now c.if-n-k.true)
+    (λ c. omega (arith, c.if-n-k.false))
     (λ c. omega arith)
-    (λ c. omega (arith, key_upto (edition t c.before) (asked t c.before)))
-    (λ c κs. (omega arith, (some_block (edition t c.before) (asked t c.before), omega (arith, c.before.if1.false))))
-    (λ c κs. before-fits (edition t c.before.before) (asked t c.before.before) c.both.ensures)
-    (λ c κs. let e = c.before.before.before in some_block (edition t e) (asked t e))
+    (λ c. omega (arith, key_upto (edition t c.before.before) (asked t c.before.before)))
+    (λ c κs. (omega arith, (some_block (edition t c.before.before) (asked t c.before.before), omega (arith, c.if-n-k.false))))
+    (λ c κs. before-fits (edition t c.before.before.before) (asked t c.before.before.before) c.both-numbers.ensures)
+    (λ c κs. let e = c.before.before.before in some_block (edition t e.before) (asked t e.before))
     (λ c κs.
-    let q = c.before.before.before.before.before.requires in
-    let l = asked t c.before.before.before.before in
-    let e = edition t c.before.before.before.before in
-    (omega (arith, l.fewer, q.0), ((omega (arith, q.1.0.0), others_fit e l c.others-in.ensures), others_keyed e l c.others-in.ensures)))
-    (λ c. let e = c.before.before.before.before.before in omega (arith, rank_fits (edition t e) (asked t e) (sum_is t c)))
+    let q = c.requires in
+    let l = asked t c.before.before.before.before.before in
+    let e = edition t c.before.before.before.before.before in
+    (omega (arith, l.fewer, q.0), ((omega (arith, q.1.0.0), others_fit e l c.others_in.ensures), others_keyed e l c.others_in.ensures)))
+    (λ c. let e = c.before.before.before.before.before in omega (arith, rank_fits (edition t e.before) (asked t e.before) (sum_is t c)))
     (λ c. sum_is t c)

@@ -34,35 +34,38 @@ claims t = (place-at-reads.Asked, place-at-reads.Learnt, block-of-reads.Asked, b
 
 -- past the test for as many blocks as models, and past the place of the rank
 
-module _ (t : ℕ) (c : write-many-lts.Else1 (claims t) (write_many_at t) write-many.Post) where
-  to_write : let a = c.before.args in ToWrite a.n a.k a.rank a.blocks.now
-  to_write = record { fewer = c.if1.false; below = c.before.requires.1.1.0.0; fits = c.before.requires.1.1.0.1; alone = c.before.requires.1.1.1.0 }
+module _ (t : ℕ) (c : write-many-lts.Else-n-k (claims t) (write_many_at t) write-many.Post) where
+  to_write : let a = c.args in ToWrite a.n a.k a.rank a.blocks.now
+  to_write = record { fewer = c.if-n-k.false; below = c.requires.1.rank_bound.0; fits = c.requires.1.rank_bound.1; alone = c.requires.1.blocks_value }
 
-  band : let a = c.before.args in InBand a.band.now a.w a.at a.n a.k
-  band = let a = c.before.args in in_band a.band.now a.w a.at a.n a.k (block_there to_write) c.if1.false c.before.requires.1.1.1.1
+  band : let a = c.args in InBand a.band.now a.w a.at a.n a.k
+  band = let a = c.args in in_band a.band.now a.w a.at a.n a.k (block_there to_write) c.if-n-k.false c.requires.1.reaches
 
-put : (t : ℕ) (c : write-many-lts.After-place-at (claims t) (write_many_at t) write-many.Post) → let a = c.before.before.before.before.args in Put (edition_of a.edition) (a.n - 1) (a.k - 1) a.n a.k a.rank a.blocks.now c.place_at.result.0 c.place_at.result.1
-put t c = let e = c.before.before.before in last-put (to_write t e) (band t e).numbers c.place_at.ensures
+put : (t : ℕ) (c : write-many-lts.After-place_at-last (claims t) (write_many_at t) write-many.Post) → let a = c.args in Put (edition_of a.edition) (a.n - 1) (a.k - 1) a.n a.k a.rank a.blocks.now c.place_at-last.result.0 c.place_at-last.result.1
+put t c = let e = c.before.before.before in last-put (to_write t e.before) (band t e.before).numbers c.place_at-last.ensures
 
 pub +write_many_spec : {M : Type 1} → statement M
-+write_many_spec = close μ-write-many λ t. write-many-lts.spec (claims t) (write_many_at t) write-many.Post
-    (λ c. let a = c.before.args in let q = c.before.requires.1.1 in alone_written (edition_of a.edition) a.n a.k a.rank a.blocks.now c.if1.true q.0.0 q.1.0)
-    (λ c. omega (arith, c.if1.false))
++write_many_spec = close μ-write-many λ t. write-many-lts.spec
+    (claims t)
+    (write_many_at t)
+    write-many.Post
+    (λ c. let a = c.args in let q = c.requires.1.1 in alone_written (edition_of a.edition) a.n a.k a.rank a.blocks.now c.if-n-k.true q.0.0 q.1.0)
+    (λ c. omega (arith, c.if-n-k.false))
     (λ c. (band t c).one-before)
     (λ c. omega (arith, (band t c).alone_within))
-    (λ c. (band t c).alone_within)
-    (λ c. (band t c.before).row_before)
-    (λ c. omega (arith, (band t c.before).joined-within))
-    (λ c. (band t c.before).joined-within)
-    (λ c κs. let e = c.before.before in let q = to_write t e in let all = all_there q (band t e).numbers in ((joined-there q (band t e).numbers, omega (arith, all, q.below)), omega (arith, all, q.fits)))
-    (λ c κs. let e = c.before.before.before in (block_there (to_write t e), (omega (arith, e.if1.false, e.before.requires.1.0), (put t c).upto)))
+    (λ c. (band t c.before).alone_within)
+    (λ c. (band t c.before.before).row_before)
+    (λ c. omega (arith, (band t c.before.before).joined-within))
+    (λ c. (band t c.before.before).joined-within)
+    (λ c κs. let e = c.before.before in let q = to_write t e.before in let all = all_there q (band t e.before).numbers in record { joined_nonzero = (joined-there q (band t e.before).numbers, omega (arith, all, q.below)); joined_bound = omega (arith, all, q.fits) })
+    (λ c κs. let e = c.before.before.before in (block_there (to_write t e.before), (omega (arith, e.if-n-k.false, e.requires.1.n_le_places), (put t c).upto)))
     (λ c. omega arith)
-    (λ c κs. block_there (to_write t c.before.before.before.before))
+    (λ c κs. block_there (to_write t c.before.before.before.before.before.before))
     (λ c κs. search rules)
-    (λ c. back-before (band t c.before.before.before.before.before.before.before) _ c.back_by.ensures)
+    (λ c. back-before (band t c.before.before.before.before.before.before.before.before.before) _ c.back_by.ensures)
     (λ c κs.
     let e = c.before.before.before.before.before.before.before in
-    let p = put t c.before.before.before.before in
-    let i = c.before.before.others-in.ensures in
-    (omega (arith, e.if1.false, e.before.requires.0), (omega (arith, e.before.requires.1.0), ((rest_below p i, rest_fits p i e.before.requires.1.1.0.1), (p.alone _, others_reached (band t e) _ c.back_by.ensures i)))))
-    (λ c. written (put t c.before.before.before.before.before) c.before.before.before.others-in.ensures c.before.before.before.before.Block-of.ensures c.write-many.ensures)
+    let p = put t c.before.before.before.before.before in
+    let i = c.others_in.ensures in
+    (omega (arith, e.if-n-k.false, e.requires.0), (omega (arith, e.requires.1.n_le_places), ((rest_below p i, rest_fits p i e.requires.1.rank_bound.1), (p.alone _, others_reached (band t e.before.before) _ c.back_by.ensures i)))))
+    (λ c. written (put t c.before.before.before.before.before.before) c.others_in.ensures c.block_of.ensures c.write_many.ensures)

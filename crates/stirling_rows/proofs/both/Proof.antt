@@ -14,8 +14,8 @@ use Rattle.stirling_rows.proofs.Tested.{place, there}
 use Rattle.stirling_rows.proofs.both.Statement.{statement}
 use Rattle.stirling_rows.proofs.both.Tie as tie
 
-between : (c : tie.Else2) → (2 ≤ c.before.before.args.k) × (c.before.before.args.k < c.before.before.args.n)
-between c = (omega (arith, c.before.if1.false), omega (arith, c.if2.false))
+between : (c : tie.Else-k-n) → (2 ≤ c.args.k) × (c.args.k < c.args.n)
+between c = (omega (arith, c.if-k-eq1.false), omega (arith, c.if-k-n.false))
 
 -- one place before stands the number of one block fewer
 before : (n k : ℕ) → n ≤ last_row → 3 ≤ k → k < n → get_or numbers (place n k - 1) 0 ≡ stirling_of n (k - 1)
@@ -23,29 +23,29 @@ before n k h some fewer =
     let back : place n k - 1 ≡ place n (k - 1) = omega arith in
     ap (λ i. get_or numbers i 0) back ∙ there n (k - 1) h (omega arith) (omega arith)
 
-returns : tie.Need-returns
+returns : tie.Need-returns-then-k-eq1
 returns c =
-    let a = c.before.args in
-    let none : a.k - 1 ≡ 0 = omega (arith, c.if1.true) in
-    (sym (ap (stirling_of a.n) none ∙ stirling_zero a.n (omega arith)), sym (ap (stirling_of a.n) c.if1.true ∙ stirling_one a.n (omega arith)))
+    let a = c.args in
+    let none : a.k - 1 ≡ 0 = omega (arith, c.if-k-eq1.true) in
+    (sym (ap (stirling_of a.n) none ∙ stirling_zero a.n (omega arith)), sym (ap (stirling_of a.n) c.if-k-eq1.true ∙ stirling_one a.n (omega arith)))
 
-returns-2 : tie.Need-returns-2
+returns-2 : tie.Need-returns-then-k-n
 returns-2 c =
-    let a = c.before.before.args in
-    (all_but_one a.n (omega arith) ∙ ap (λ i. stirling_of a.n (i - 1)) (sym c.if2.true), sym (ap (stirling_of a.n) c.if2.true ∙ stirling_all a.n))
+    let a = c.args in
+    (all_but_one a.n (omega arith) ∙ ap (λ i. stirling_of a.n (i - 1)) (sym c.if-k-n.true), sym (ap (stirling_of a.n) c.if-k-n.true ∙ stirling_all a.n))
 
-returns-3 : tie.Need-returns-3
+returns-3 : tie.Need-returns-then-k-eq2
 returns-3 c =
-    let a = c.before.before.before.before.args in
+    let a = c.args in
     let b = between c.before.before in
-    let one : a.k - 1 ≡ 1 = omega (arith, c.before.if3.true) in
+    let one : a.k - 1 ≡ 1 = omega (arith, c.if-k-eq2.true) in
     (sym (ap (stirling_of a.n) one ∙ stirling_one a.n (omega arith)), c.number.ensures ∙ there a.n a.k (omega arith) b.0 b.1)
 
-returns-4 : tie.Need-returns-4
+returns-4 : tie.Need-returns
 returns-4 c =
-    let a = c.before.before.before.before.before.args in
+    let a = c.args in
     let b = between c.before.before.before in
-    (c.before.number2.ensures ∙ before a.n a.k (omega arith) (omega (arith, b.0, c.before.before.if3.false)) b.1, c.number3.ensures ∙ there a.n a.k (omega arith) b.0 b.1)
+    (c.number-2.ensures ∙ before a.n a.k (omega arith) (omega (arith, b.0, c.if-k-eq2.false)) b.1, c.number-3.ensures ∙ there a.n a.k (omega arith) b.0 b.1)
 
 pub both_spec : {M : Type 1} → statement M
 both_spec =
@@ -53,16 +53,16 @@ both_spec =
     (tie.spec
     returns
     (λ c. search rules)
-    (λ c. omega (arith, few_pairs c.before.before.args.n (omega arith)))
+    (λ c. omega (arith, few_pairs c.args.n (omega arith)))
     returns-2
     (λ c. omega (arith, between c))
     (λ c. omega (arith, between c))
-    (λ c. omega (arith, few_places c.before.before.args.n (omega arith)))
-    (λ c. omega (arith, few_places c.before.before.args.n (omega arith)))
+    (λ c. omega (arith, few_places c.args.n (omega arith)))
+    (λ c. omega (arith, few_places c.args.n (omega arith)))
     (λ c. omega (arith, between c))
     (λ c κs. search rules)
     returns-3
-    (λ c. omega (arith, between c.before, c.if3.false))
+    (λ c. omega (arith, between c.before, c.if-k-eq2.false))
     (λ c κs. search rules)
     (λ c κs. search rules)
     returns-4)

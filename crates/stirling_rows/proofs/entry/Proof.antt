@@ -11,20 +11,20 @@ use Rattle.stirling_rows.proofs.Tested.{there}
 use Rattle.stirling_rows.proofs.entry.Statement.{statement}
 use Rattle.stirling_rows.proofs.entry.Tie as tie
 
-fewer : (c : tie.Else3) → c.before.before.before.args.k < c.before.before.before.args.n
-fewer c = omega (arith, c.before.before.if1.false)
+fewer : (c : tie.Else-k-lt2) → c.args.k < c.args.n
+fewer c = omega (arith, c.if-k-n.false)
 
 pub entry_spec : {M : Type 1} → statement M
 entry_spec =
     tie.close
     (tie.spec
-    (λ c. let a = c.before.args in sym (ap (stirling_of a.n) c.if1.true ∙ stirling_all a.n))
-    (λ c. let a = c.before.before.args in sym (stirling_none a.n a.k c.if2.true))
-    (λ c. let a = c.before.before.before.args in short a.n a.k c.if3.true (omega (arith, c.before.before.if1.false)))
+    (λ c. let a = c.args in sym (ap (stirling_of a.n) c.if-k-n.true ∙ stirling_all a.n))
+    (λ c. let a = c.args in sym (stirling_none a.n a.k c.if-n-k.true))
+    (λ c. let a = c.args in short a.n a.k c.if-k-lt2.true (omega (arith, c.if-k-n.false)))
     (λ c. omega (arith, fewer c))
     (λ c. omega (arith, fewer c))
-    (λ c. omega (arith, few_places c.before.before.before.args.n (omega arith)))
-    (λ c. omega (arith, fewer c, few_places c.before.before.before.args.n (omega arith)))
+    (λ c. omega (arith, few_places c.args.n (omega arith)))
+    (λ c. omega (arith, fewer c, few_places c.args.n (omega arith)))
     (λ c. omega arith)
     (λ c κs. search rules)
-    (λ c. let a = c.before.before.before.before.args in c.number.ensures ∙ there a.n a.k (omega arith) (omega arith) (fewer c.before)))
+    (λ c. let a = c.args in c.number.ensures ∙ there a.n a.k (omega arith) (omega arith) (fewer c.before)))

@@ -14,22 +14,21 @@ use Rattle.stirlings.proofs.OneRow.{row_of_ones}
 use Rattle.stirlings.proofs.stirling.Statement.{statement}
 use Rattle.stirlings.proofs.stirling.Tie as tie
 
-abbrev invariant-loop : tie.invariant-loop
+abbrev invariant-loop : tie.invariant-loop-d
 invariant-loop n k t₀ w rows d₀ t d = (d ≤ rows) × Row t w d
 
-abbrev decreases-loop : tie.decreases-loop
+abbrev decreases-loop : tie.decreases-loop-d
 decreases-loop n k t₀ w rows d₀ t d = rows - d
 
-next-row-requires : tie.Need-next-row-requires invariant-loop decreases-loop
+next-row-requires : tie.Need-next_row-requires invariant-loop decreases-loop
 next-row-requires c κs =
-    let a = c.before.before.before.before.before.args in
-    let l = c.before.before.loop in
-    (omega arith, (λ j h. all_fit a.n a.k (suc l.d) j (omega arith) (omega arith) (omega arith) (omega arith) (omega arith), l.invariant.1))
+    let a = c.args in
+    let l = c.loop-d in record { w_bound = omega arith; by_index = λ j h. all_fit a.n a.k (suc l.d) j (omega arith) (omega arith) (omega arith) (omega arith) (omega arith); row = l.invariant.1 }
 
-returns-3 : tie.Need-returns-3 invariant-loop decreases-loop
+returns-3 : tie.Need-returns invariant-loop decreases-loop
 returns-3 c =
-    let a = c.before.before.before.before.args in
-    let l = c.before.loop in
+    let a = c.args in
+    let l = c.loop-d in
     let all : a.k + l.d ≡ a.n = omega arith in
     l.invariant.1.there a.k (omega arith) ∙ ap (λ (i : ℕ). stirling_of i a.k) all
 
@@ -41,13 +40,13 @@ stirling_spec =
     decreases-loop
     (λ c κs. search rules)
     (λ c. search rules)
-    (λ c. let a = c.before.before.args in sym (stirling_none a.n a.k c.if2.true))
+    (λ c. let a = c.args in sym (stirling_none a.n a.k c.if-n-k.true))
     (λ c. omega arith)
-    (λ c. let a = c.before.before.args in (omega arith, row_of_ones (places + 1) (a.k + 1) refl (omega arith)))
+    (λ c. let a = c.args in (omega arith, row_of_ones (places + 1) (a.k + 1) refl (omega arith)))
     next-row-requires
     (λ c. omega arith)
     (λ c. omega arith)
-    (λ c. (omega arith, rw (add-one c.before.before.before.loop.d) c.next_row.ensures))
+    (λ c. (omega arith, rw (add-one c.loop-d.d) c.next_row.ensures))
     (λ c. omega arith)
     (λ c. omega arith)
     returns-3)

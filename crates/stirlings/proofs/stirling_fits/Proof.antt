@@ -21,17 +21,17 @@ none_fit n k h = sym (lt-ltb (stirling_of n k) (2 ^ 64) (omega (arith, stirling_
 few_fit : (n k : ℕ) → n ≤ last_row → true ≡ ltb (stirling_of n k) (2 ^ 64)
 few_fit n k h = elim (dec_lt n k) [ yes g ↦ none_fit n k g | no g ↦ sym (small n k h (omega arith)) ]
 
-returns-3 : tie.Need-returns-3
+returns-3 : tie.Need-returns
 returns-3 c =
-    let a = c.before.before.before.args in
+    let a = c.args in
     let e : a.k + (a.n - a.k) ≡ a.n = omega arith in
-    sym (ap (λ (m : ℕ). ltb (stirling_of m a.k) (2 ^ 64)) (sym e) ∙ c.last-column.ensures.fits a.k (omega arith))
+    sym (ap (λ (m : ℕ). ltb (stirling_of m a.k) (2 ^ 64)) (sym e) ∙ c.last_column.ensures.fits a.k (omega arith))
 
 pub stirling_fits_spec : {M : Type 1} → statement M
 stirling_fits_spec =
     tie.close
     (tie.spec
-    (λ c. let a = c.before.args in few_fit a.n a.k c.if1.true)
-    (λ c. let a = c.before.before.args in none_fit a.n a.k c.if2.true)
+    (λ c. let a = c.args in few_fit a.n a.k c.if-n-le-LAST_ROW.true)
+    (λ c. let a = c.args in none_fit a.n a.k c.if-n-k.true)
     (λ c κs. search rules)
     returns-3)

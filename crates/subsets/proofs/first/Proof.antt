@@ -11,4 +11,4 @@ first_spec =
     (tie.spec
     (λ c κs. search rules)
     (λ c. search rules)
-    (λ c. rw c.before.before.fill-up.ensures (lowest_first _ _ c.before.before.before.before.before.requires.1)))
+    (λ c. rw c.fill_up.ensures (lowest_first _ _ c.requires.1)))

@@ -10,10 +10,10 @@ use Rattle.subsets.proofs.Testing.{other_length, right-length, stops, goes_on, e
 use Rattle.subsets.proofs.is_object.Statement.{statement}
 use Rattle.subsets.proofs.is_object.Tie as tie
 
-abbrev invariant-loop : tie.invariant-loop
+abbrev invariant-loop : tie.invariant-loop-i
 invariant-loop n k object last₀ i₀ last i = (i ≤ length object) × (is_subset n k object ≡ climbs last n (drop i object))
 
-abbrev decreases-loop : tie.decreases-loop
+abbrev decreases-loop : tie.decreases-loop-i
 decreases-loop n k object last₀ i₀ last i = length object - i
 
 pub is_object_spec : {M : Type 1} → statement M
@@ -22,13 +22,13 @@ is_object_spec =
     (tie.spec
     invariant-loop
     decreases-loop
-    (λ c. sym (other_length _ _ _ c.if1.true))
-    (λ c. (omega arith, right-length _ _ _ c.if1.false))
+    (λ c. sym (other_length _ _ _ c.if-object-k.true))
+    (λ c. (omega arith, right-length _ _ _ c.if-object-k.false))
     (λ c. search rules)
     (λ c κs. search rules)
-    (λ c. sym (c.before.before.before.before.loop.invariant.1 ∙ stops _ _ _ _ c.before.before.before.loop-test.true c.before.wide.ensures (λ low high. omega arith)))
-    (λ c. sym (c.before.before.before.before.before.loop.invariant.1 ∙ stops _ _ _ _ c.before.before.before.before.loop-test.true c.before.before.wide.ensures (λ low high. omega arith)))
+    (λ c. sym (c.loop-i.invariant.1 ∙ stops _ _ _ _ c.loop-i-test.true c.wide-b.ensures (λ low high. omega arith)))
+    (λ c. sym (c.loop-i.invariant.1 ∙ stops _ _ _ _ c.loop-i-test.true c.wide-b.ensures (λ low high. omega arith)))
     (λ c. search rules)
     (λ c. search rules)
-    (λ c. (omega arith, c.before.before.before.before.before.loop.invariant.1 ∙ goes_on _ _ _ _ c.before.before.before.before.loop-test.true c.before.before.wide.ensures (omega arith) (omega arith)))
-    (λ c. sym (c.before.loop.invariant.1 ∙ ends _ _ _ _ c.loop-test.false)))
+    (λ c. (omega arith, c.loop-i.invariant.1 ∙ goes_on _ _ _ _ c.loop-i-test.true c.wide-b.ensures (omega arith) (omega arith)))
+    (λ c. sym (c.loop-i.invariant.1 ∙ ends _ _ _ _ c.loop-i-test.false)))

@@ -8,5 +8,10 @@ use Rattle.subsets.proofs.last.Statement.{statement}
 use Rattle.subsets.proofs.last.Tie as tie
 
 pub last_spec : {M : Type 1} → statement M
-last_spec = tie.close (tie.spec (λ c. search rules) (λ c. search rules) (λ c. search rules) (λ c κs. search rules) (λ c. search rules)
-    (λ c. rw (c.before.before.fill-up.ensures, add-one) (highest_last _ _ _ (omega arith))))
+last_spec = tie.close (tie.spec
+    (λ c. search rules)
+    (λ c. search rules)
+    (λ c. search rules)
+    (λ c κs. search rules)
+    (λ c. search rules)
+    (λ c. rw (c.fill_up.ensures, add-one) (highest_last _ _ _ (omega arith))))

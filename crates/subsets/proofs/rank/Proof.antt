@@ -14,29 +14,29 @@ use Rattle.subsets.proofs.Ranks.{rank_of, below_count, rank_of-none, Parted, par
 use Rattle.subsets.proofs.rank.Statement.{statement}
 use Rattle.subsets.proofs.rank.Tie as tie
 
-abbrev invariant-loop : tie.invariant-loop
+abbrev invariant-loop : tie.invariant-loop-place
 invariant-loop n object before₀ place₀ before place =
     (m : ℕ) × (m ≤ n) × (place ≤ length object) × (before + rank_of m place object ≡ count_before subset_before object (subsets n (length object))) × (is_subset m place (take place object) ≡ true)
 
-abbrev decreases-loop : tie.decreases-loop
+abbrev decreases-loop : tie.decreases-loop-place
 decreases-loop n object before₀ place₀ before place = place
 
 -- before the first turn all numbers are left
-loop-holds : tie.Need-loop-init invariant-loop decreases-loop
+loop-holds : tie.Need-loop-place-init invariant-loop decreases-loop
 loop-holds c =
-    let x = c.before.args.object.now in
-    let whole : rank_of c.before.args.n (length x) x ≡ count_before subset_before x (subsets c.before.args.n (length x)) = rw take-length in
-    (c.before.args.n, omega arith, omega arith, omega (arith, whole), rw (take-length x) c.before.requires.1.0)
+    let x = c.args.object.now in
+    let whole : rank_of c.args.n (length x) x ≡ count_before subset_before x (subsets c.args.n (length x)) = rw take-length in
+    (c.args.n, omega arith, omega arith, omega (arith, whole), rw (take-length x) c.requires.object_value)
 
 -- the number read, b, is the last of those that are left
-last : (c : tie.After-wide invariant-loop decreases-loop) → let at = c.before.before.before.loop in Parted at.invariant.0 at.place (at.place - 1) c.wide.result c.before.before.before.before.before.args.object.now
-last c = let at = c.before.before.before.loop in parted at.invariant.0 at.place (at.place - 1) c.wide.result _ at.invariant.4 (omega arith) (omega arith) c.wide.ensures
+last : (c : tie.After-wide-below invariant-loop decreases-loop) → let at = c.loop-place in Parted at.invariant.0 at.place (at.place - 1) c.wide-below.result c.args.object.now
+last c = let at = c.loop-place in parted at.invariant.0 at.place (at.place - 1) c.wide-below.result _ at.invariant.4 (omega arith) (omega arith) c.wide-below.ensures
 
-fits : (c : tie.After-wide invariant-loop decreases-loop) → let at = c.before.before.before.loop in at.before + choose (c.wide.result - 1) at.place < 2 ^ 64
-fits c = let s = c.before.before.before.before.before in omega (arith, (last c).rank, below_count s.args.n (length s.args.object.now) s.args.object.now s.requires.1.0)
+fits : (c : tie.After-wide-below invariant-loop decreases-loop) → let at = c.loop-place in at.before + choose (c.wide-below.result - 1) at.place < 2 ^ 64
+fits c = let s = c.before.before.before.before.before in omega (arith, (last c).rank, below_count s.args.n (length s.args.object.now) s.args.object.now s.requires.object_value)
 
-loop-again : tie.Need-loop-preserved invariant-loop decreases-loop
-loop-again c = let p = last c.before in (c.before.wide.result - 1, omega (arith, p.high), omega arith, omega (arith, p.rank), p.front)
+loop-again : tie.Need-loop-place-preserved invariant-loop decreases-loop
+loop-again c = let p = last c.before in (c.wide-below.result - 1, omega (arith, p.high), omega arith, omega (arith, p.rank), p.front)
 
 pub rank_spec : {M : Type 1} → statement M
 rank_spec =
@@ -54,4 +54,4 @@ rank_spec =
     (λ c. omega arith)
     (λ c. omega arith)
     loop-again
-    (λ c. omega (arith, rank_of-none _ _ _ c.before.loop.invariant.4 (omega arith))))
+    (λ c. omega (arith, rank_of-none _ _ _ c.loop-place.invariant.4 (omega arith))))

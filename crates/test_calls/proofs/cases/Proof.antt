@@ -6,10 +6,10 @@ use lib.ListN.{length}
 use Rattle.test_calls.proofs.cases.Statement.{statement}
 use Rattle.test_calls.proofs.cases.Tie as tie
 
-abbrev invariant-loop : tie.invariant-loop
+abbrev invariant-loop : tie.invariant-loop-at
 invariant-loop s at₀ at = at ≤ length s
 
-abbrev decreases-loop : tie.decreases-loop
+abbrev decreases-loop : tie.decreases-loop-at
 decreases-loop s at₀ at = length s - at
 
 pub cases_spec : {M : Type 1} → statement M

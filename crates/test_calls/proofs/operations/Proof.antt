@@ -7,10 +7,10 @@ use lib.ListN.{length}
 use Rattle.test_calls.proofs.operations.Statement.{statement}
 use Rattle.test_calls.proofs.operations.Tie as tie
 
-abbrev invariant-loop : tie.invariant-loop
+abbrev invariant-loop : tie.invariant-loop-i
 invariant-loop label letters rank f lists object₀ i₀ object i = length object ≡ length object₀
 
-abbrev decreases-loop : tie.decreases-loop
+abbrev decreases-loop : tie.decreases-loop-i
 decreases-loop label letters rank f lists object₀ i₀ object i = length letters - i
 
 pub operations_spec : {M : Type 1} → statement M

@@ -7,10 +7,10 @@ use lib.ListN.{length}
 use Rattle.test_checks.proofs.each_list.Statement.{statement}
 use Rattle.test_checks.proofs.each_list.Tie as tie
 
-abbrev invariant-loop : tie.invariant-loop
+abbrev invariant-loop : tie.invariant-loop-at
 invariant-loop f lists bytes line start room₀ at₀ room at = (length room ≡ length room₀) × (at ≤ length line)
 
-abbrev decreases-loop : tie.decreases-loop
+abbrev decreases-loop : tie.decreases-loop-at
 decreases-loop f lists bytes line start room₀ at₀ room at = length line - at
 
 pub each_list_spec : {M : Type 1} → statement M

@@ -10,10 +10,10 @@ use lib.Seq.{length-take-le}
 use Rattle.test_checks.proofs.put.Statement.{statement}
 use Rattle.test_checks.proofs.put.Tie as tie
 
-abbrev invariant-loop : tie.invariant-loop
+abbrev invariant-loop : tie.invariant-loop-at
 invariant-loop room₀ start bytes at₀ i₀ room at i = (length room ≡ length room₀) × (at ≤ length room)
 
-abbrev decreases-loop : tie.decreases-loop
+abbrev decreases-loop : tie.decreases-loop-at
 decreases-loop room₀ start bytes at₀ i₀ room at i = length room₀ - at
 
 pub put_spec : {M : Type 1} → statement M

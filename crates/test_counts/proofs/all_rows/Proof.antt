@@ -6,10 +6,10 @@ use Rattle.basics.specs.Limits.{places}
 use Rattle.test_counts.proofs.all_rows.Statement.{statement}
 use Rattle.test_counts.proofs.all_rows.Tie as tie
 
-abbrev invariant-loop : tie.invariant-loop
+abbrev invariant-loop : tie.invariant-loop-n
 invariant-loop n₀ n = n ≤ places + 2
 
-abbrev decreases-loop : tie.decreases-loop
+abbrev decreases-loop : tie.decreases-loop-n
 decreases-loop n₀ n = places + 2 - n
 
 pub all_rows_spec : {M : Type 1} → statement M

@@ -5,10 +5,10 @@ use Prim.Native.Nat.{◌≤◌, ◌-◌}
 use Rattle.test_counts.proofs.rows.Statement.{statement}
 use Rattle.test_counts.proofs.rows.Tie as tie
 
-abbrev invariant-loop : tie.invariant-loop
+abbrev invariant-loop : tie.invariant-loop-k
 invariant-loop n end k₀ k = k ≤ end
 
-abbrev decreases-loop : tie.decreases-loop
+abbrev decreases-loop : tie.decreases-loop-k
 decreases-loop n end k₀ k = end - k
 
 pub rows_spec : {M : Type 1} → statement M

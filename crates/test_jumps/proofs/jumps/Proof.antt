@@ -4,10 +4,10 @@ use Rattle.std.proofs.Common.{◌-◌, rules}
 use Rattle.test_jumps.proofs.jumps.Statement.{statement}
 use Rattle.test_jumps.proofs.jumps.Tie as tie
 
-abbrev invariant-loop : tie.invariant-loop
+abbrev invariant-loop : tie.invariant-loop-offset
 invariant-loop first last f lists section offset₀ offset = Unit {0}
 
-abbrev decreases-loop : tie.decreases-loop
+abbrev decreases-loop : tie.decreases-loop-offset
 decreases-loop first last f lists section offset₀ offset = last - offset
 
 pub jumps_spec : {M : Type 1} → statement M

@@ -4,10 +4,10 @@ use Rattle.std.proofs.Common.{◌-◌, rules}
 use Rattle.test_jumps.proofs.main.Statement.{statement}
 use Rattle.test_jumps.proofs.main.Tie as tie
 
-abbrev invariant-loop : tie.invariant-loop
+abbrev invariant-loop : tie.invariant-loop-i
 invariant-loop end i₀ i = Unit {0}
 
-abbrev decreases-loop : tie.decreases-loop
+abbrev decreases-loop : tie.decreases-loop-i
 decreases-loop end i₀ i = end - i
 
 pub main_spec : {M : Type 1} → statement M

@@ -8,10 +8,10 @@ use Rattle.slip.specs.Sizes.{largest}
 use Rattle.test_slips.proofs.main.Statement.{statement}
 use Rattle.test_slips.proofs.main.Tie as tie
 
-abbrev invariant-loop : tie.invariant-loop
+abbrev invariant-loop : tie.invariant-loop-i
 invariant-loop out₀ end i₀ out i = largest ≡ length out
 
-abbrev decreases-loop : tie.decreases-loop
+abbrev decreases-loop : tie.decreases-loop-i
 decreases-loop out₀ end i₀ out i = end - i
 
 pub main_spec : {M : Type 1} → statement M

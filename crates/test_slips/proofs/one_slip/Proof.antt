@@ -8,8 +8,8 @@ use Rattle.slip.proofs.Sizes.{ends_within}
 use Rattle.test_slips.proofs.one_slip.Statement.{statement}
 use Rattle.test_slips.proofs.one_slip.Tie as tie
 
-slice-aggregate-show : tie.Need-slice-aggregate-show
-slice-aggregate-show c = sym (length-take-le c.before.before.end.given.0.0 c.before.before.before.before.before.before.render.new.1.0 (ends_within c.before.before.before.before.before.before.render.ensures (omega arith) c.before.before.end.given.1))
+slice-aggregate-show : tie.Need-slice_bounds-show-end-in-Text
+slice-aggregate-show c = sym (length-take-le c.in-Text.end c.render.new.out (ends_within c.render.ensures (omega arith) c.in-Text.is))
 
 pub one_slip_spec : {M : Type 1} → statement M
 one_slip_spec =
@@ -22,7 +22,7 @@ one_slip_spec =
     (λ c. search rules)
     (λ c κs. search rules)
     (λ c. search rules)
-    (λ c. ends_within c.before.before.before.before.before.render.ensures (omega arith) c.before.end.given.1)
+    (λ c. ends_within c.render.ensures (omega arith) c.in-Text.is)
     slice-aggregate-show
     (λ c κs. search rules)
     (λ c. search rules)

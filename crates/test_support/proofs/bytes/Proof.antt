@@ -6,10 +6,10 @@ use lib.ListN.{length}
 use Rattle.test_support.proofs.bytes.Statement.{statement}
 use Rattle.test_support.proofs.bytes.Tie as tie
 
-abbrev invariant-loop : tie.invariant-loop
+abbrev invariant-loop : tie.invariant-loop-i
 invariant-loop object i₀ i = i ≤ length object
 
-abbrev decreases-loop : tie.decreases-loop
+abbrev decreases-loop : tie.decreases-loop-i
 decreases-loop object i₀ i = length object - i
 
 pub bytes_spec : {M : Type 1} → statement M

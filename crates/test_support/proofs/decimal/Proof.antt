@@ -6,10 +6,10 @@ use lib.ListN.{length}
 use Rattle.test_support.proofs.decimal.Statement.{statement}
 use Rattle.test_support.proofs.decimal.Tie as tie
 
-abbrev invariant-loop : tie.invariant-loop
+abbrev invariant-loop : tie.invariant-loop-at
 invariant-loop line start value₀ at₀ value at = Unit {0}
 
-abbrev decreases-loop : tie.decreases-loop
+abbrev decreases-loop : tie.decreases-loop-at
 decreases-loop line start value₀ at₀ value at = length line - at
 
 pub decimal_spec : {M : Type 1} → statement M

@@ -6,10 +6,10 @@ use lib.ListN.{length}
 use Rattle.test_support.proofs.digest.Statement.{statement}
 use Rattle.test_support.proofs.digest.Tie as tie
 
-abbrev invariant-loop : tie.invariant-loop
+abbrev invariant-loop : tie.invariant-loop-i
 invariant-loop start s sum₀ i₀ sum i = i ≤ length s
 
-abbrev decreases-loop : tie.decreases-loop
+abbrev decreases-loop : tie.decreases-loop-i
 decreases-loop start s sum₀ i₀ sum i = length s - i
 
 pub digest_spec : {M : Type 1} → statement M

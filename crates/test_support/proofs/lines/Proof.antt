@@ -6,10 +6,10 @@ use lib.ListN.{length}
 use Rattle.test_support.proofs.lines.Statement.{statement}
 use Rattle.test_support.proofs.lines.Tie as tie
 
-abbrev invariant-loop : tie.invariant-loop
+abbrev invariant-loop : tie.invariant-loop-at
 invariant-loop label s at₀ at = at ≤ length s
 
-abbrev decreases-loop : tie.decreases-loop
+abbrev decreases-loop : tie.decreases-loop-at
 decreases-loop label s at₀ at = length s - at
 
 pub lines_spec : {M : Type 1} → statement M

@@ -10,10 +10,10 @@ use lib.ListN.{length, length-set}
 use Rattle.test_support.proofs.list.Statement.{statement}
 use Rattle.test_support.proofs.list.Tie as tie
 
-abbrev invariant-loop : tie.invariant-loop
+abbrev invariant-loop : tie.invariant-loop-len
 invariant-loop line start out₀ len₀ at₀ out len at = (length out ≡ length out₀) × (len ≤ length out)
 
-abbrev decreases-loop : tie.decreases-loop
+abbrev decreases-loop : tie.decreases-loop-len
 decreases-loop line start out₀ len₀ at₀ out len at = length out₀ - len
 
 pub list_spec : {M : Type 1} → statement M

@@ -7,10 +7,10 @@ use lib.ListN.{length}
 use Rattle.test_support.proofs.until.Statement.{statement}
 use Rattle.test_support.proofs.until.Tie as tie
 
-abbrev invariant-loop : tie.invariant-loop
+abbrev invariant-loop : tie.invariant-loop-at
 invariant-loop s start letter at₀ at = (start ≤ at) × (at ≤ length s)
 
-abbrev decreases-loop : tie.decreases-loop
+abbrev decreases-loop : tie.decreases-loop-at
 decreases-loop s start letter at₀ at = length s - at
 
 pub until_spec : {M : Type 1} → statement M
@@ -21,8 +21,8 @@ until_spec =
     decreases-loop
     (λ c. search rules)
     (λ c. search rules)
-    (λ c. search (rules, counted))
+    (λ c.record { lower_bound = search (rules, counted); prefix_len = search (rules, counted) })
     (λ c. search rules)
     (λ c. search rules)
     (λ c. search rules)
-    (λ c. search (rules, counted)))
+    (λ c.record { lower_bound = search (rules, counted); prefix_len = search (rules, counted) }))

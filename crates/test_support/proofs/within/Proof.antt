@@ -11,4 +11,4 @@ within_spec =
     tie.close
     (tie.spec
     (λ c. search (rules, counted))
-    (λ c. (omega arith, counted c.before.args.length c.before.args.room.now (omega arith))))
+    (λ c. (omega arith, counted c.args.length c.args.room.now (omega arith))))

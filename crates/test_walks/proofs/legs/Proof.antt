@@ -6,10 +6,10 @@ use lib.ListN.{length}
 use Rattle.test_walks.proofs.legs.Statement.{statement}
 use Rattle.test_walks.proofs.legs.Tie as tie
 
-abbrev invariant-loop : tie.invariant-loop
+abbrev invariant-loop : tie.invariant-loop-at
 invariant-loop first line start walk₀ at₀ walk at = at ≤ length line
 
-abbrev decreases-loop : tie.decreases-loop
+abbrev decreases-loop : tie.decreases-loop-at
 decreases-loop first line start walk₀ at₀ walk at = length line - at
 
 pub legs_spec : {M : Type 1} → statement M

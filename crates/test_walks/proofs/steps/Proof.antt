@@ -6,10 +6,10 @@ use lib.ListN.{length}
 use Rattle.test_walks.proofs.steps.Statement.{statement}
 use Rattle.test_walks.proofs.steps.Tie as tie
 
-abbrev invariant-loop : tie.invariant-loop
+abbrev invariant-loop : tie.invariant-loop-i
 invariant-loop first lists on walk₀ i₀ walk i = Unit {0}
 
-abbrev decreases-loop : tie.decreases-loop
+abbrev decreases-loop : tie.decreases-loop-i
 decreases-loop first lists on walk₀ i₀ walk i = length on - i
 
 pub steps_spec : {M : Type 1} → statement M

@@ -10,10 +10,10 @@ use lib.Seq.{length-take-le}
 use Rattle.test_walks.proofs.ways.Statement.{statement}
 use Rattle.test_walks.proofs.ways.Tie as tie
 
-abbrev invariant-loop : tie.invariant-loop
+abbrev invariant-loop : tie.invariant-loop-len
 invariant-loop leg start on₀ len₀ at₀ on len at = (length on ≡ length on₀) × (len ≤ length on)
 
-abbrev decreases-loop : tie.decreases-loop
+abbrev decreases-loop : tie.decreases-loop-len
 decreases-loop leg start on₀ len₀ at₀ on len at = length on₀ - len
 
 pub ways_spec : {M : Type 1} → statement M
@@ -29,6 +29,6 @@ ways_spec =
     (λ c. omega (arith, ltb-true))
     (λ c. (search rules, simp length-set (omega (arith, ltb-true))))
     (λ c. search rules)
-    (λ c. search (rules, length-take-le, sym))
+    (λ c.record { upper_bound = search (rules, length-take-le, sym); value = search (rules, length-take-le, sym) })
     (λ c. search rules)
-    (λ c. search (rules, length-take-le, sym)))
+    (λ c.record { upper_bound = search (rules, length-take-le, sym); value = search (rules, length-take-le, sym) }))

@@ -8,11 +8,11 @@ use borrow.Author.Rules.{rules}
 use Rattle.treelist.proofs.main.Statement.{statement}
 use Rattle.treelist.proofs.main.Tie as tie
 
-slice-aggregate-render : tie.Need-slice-aggregate-render
-slice-aggregate-render c = sym (length-take-le c.before.before.before.read.given.0.0 c.before.before.before.before.before.before.read-input.new.0 (c.before.before.before.before.before.before.read-input.ensures _ c.before.before.before.read.given.1))
+slice-aggregate-render : tie.Need-slice_bounds-render-end
+slice-aggregate-render c = sym (length-take-le c.in-Bytes.read c.read_input.new.buf (c.read_input.ensures _ c.in-Bytes.is))
 
-slice-aggregate-print : tie.Need-slice-aggregate-print
-slice-aggregate-print c = sym (length-take-le c.before.before.end.given.0.0 c.before.before.before.before.before.render.new.1.0 (ends_within c.before.before.before.before.before.render.ensures (omega arith) c.before.before.end.given.1))
+slice-aggregate-print : tie.Need-slice_bounds-print-end
+slice-aggregate-print c = sym (length-take-le c.in-Text.end c.render.new.out (ends_within c.render.ensures (omega arith) c.in-Text.is))
 
 pub main_spec : {M : Type 1} → statement M
 main_spec =
@@ -27,14 +27,14 @@ main_spec =
     (λ c κs. search rules)
     (λ c. search rules)
     (λ c κs. search rules)
-    (λ c. c.before.before.before.before.before.read-input.ensures _ c.before.before.read.given.1)
+    (λ c. c.read_input.ensures _ c.in-Bytes.is)
     slice-aggregate-render
     (λ c. search rules)
     (λ c κs. search rules)
     (λ c. search rules)
     (λ c. search rules)
     (λ c. search rules)
-    (λ c. ends_within c.before.before.before.before.render.ensures (omega arith) c.before.end.given.1)
+    (λ c. ends_within c.render.ensures (omega arith) c.in-Text.is)
     slice-aggregate-print
     (λ c κs. search rules)
     (λ c. search rules))

@@ -12,10 +12,10 @@ use Rattle.treelist.proofs.read_input.Tie as tie
 same_count : {m n : ℕ} → Bytes m ≡ Bytes n → m ≡ n
 same_count e = cc
 
-abbrev invariant-loop : tie.invariant-loop
+abbrev invariant-loop : tie.invariant-loop-done
 invariant-loop buf₀ done₀ buf done = (done ≤ length buf) × (length buf ≡ length buf₀)
 
-abbrev decreases-loop : tie.decreases-loop
+abbrev decreases-loop : tie.decreases-loop-done
 decreases-loop buf₀ done₀ buf done = length buf - done
 
 pub read_input_spec : {M : Type 1} → statement M

@@ -6,10 +6,10 @@ use borrow.Author.Rules.{rules}
 use Rattle.treelist.proofs.write_text.Statement.{statement}
 use Rattle.treelist.proofs.write_text.Tie as tie
 
-abbrev invariant-loop : tie.invariant-loop
+abbrev invariant-loop : tie.invariant-loop-done
 invariant-loop text done₀ done = done ≤ length text
 
-abbrev decreases-loop : tie.decreases-loop
+abbrev decreases-loop : tie.decreases-loop-done
 decreases-loop text done₀ done = length text - done
 
 pub write_text_spec : {M : Type 1} → statement M

@@ -5,13 +5,13 @@ use borrow.Author.Rules.{rules}
 use Rattle.walk.proofs.call.Statement.{statement}
 use Rattle.walk.proofs.call.Tie as tie
 
-returns : tie.Need-returns
+returns : tie.Need-returns-in-Forth
 unfolding call_of
-returns c = rw c.before.before.before.before.enum_told.given.1 c.before.before.next.ensures
+returns c = rw c.in-Forth.is c.next.ensures
 
-returns-2 : tie.Need-returns-2
+returns-2 : tie.Need-returns-in-Back
 unfolding call_of
-returns-2 c = rw c.before.before.before.before.enum-told2.given.1 c.before.before.previous.ensures
+returns-2 c = rw c.in-Back.is c.previous.ensures
 
 pub call_spec : {M : Type 1} → statement M
 call_spec =

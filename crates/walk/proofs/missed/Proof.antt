@@ -13,5 +13,5 @@ missed_spec =
     (λ c κs. search rules)
     (λ c. search rules)
     (λ c. search rules)
-    (λ c number q beyond. missed_first _ _ _ _ number beyond (verdict c.before.before.ask.ensures c.enum_told.given.1))
-    (λ c number q beyond. rank_missed _ _ _ _ number (verdict c.before.before.before.ask.ensures c.before.q.given.1)))
+    (λ c number q beyond. missed_first _ _ _ _ number beyond (verdict c.ask.ensures c.in_default.is))
+    (λ c number q beyond. rank_missed _ _ _ _ number (verdict c.ask.ensures c.in-No.is)))

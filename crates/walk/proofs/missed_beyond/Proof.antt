@@ -6,18 +6,18 @@ use borrow.Author.Rules.{rules}
 use Rattle.walk.proofs.missed_beyond.Statement.{statement}
 use Rattle.walk.proofs.missed_beyond.Tie as tie
 
-returns : tie.Need-returns
+returns : tie.Need-returns-in_default-rank_below
 returns c size holds number large =
     rank_missed _ _ _ _ number
-    (size_missed _ _ _ _ (verdict c.before.before.before.before.before.opening.ensures c.before.before.before.enum_told.given.1) (verdict c.before.before.rank_below.ensures c.enum-told2.given.1) large)
+    (size_missed _ _ _ _ (verdict c.opening.ensures c.in_default.is) (verdict c.rank_below.ensures c.in_default-rank_below.is) large)
 
-returns-2 : tie.Need-returns-2
+returns-2 : tie.Need-returns-in_default
 returns-2 c size holds number large =
     rank_missed _ _ _ _ number
-    (count_missed _ _ _ _ (verdict c.before.before.before.before.before.before.opening.ensures c.before.before.before.before.enum_told.given.1) (verdict c.before.before.before.rank_below.ensures c.before.p.given.1))
+    (count_missed _ _ _ _ (verdict c.opening.ensures c.in_default.is) (verdict c.rank_below.ensures c.in-No-rank_below.is))
 
-returns-3 : tie.Need-returns-3
-returns-3 c size holds number large = rank_missed _ _ _ _ number (family_missed _ _ _ _ (verdict c.before.before.before.opening.ensures c.before.q.given.1))
+returns-3 : tie.Need-returns
+returns-3 c size holds number large = rank_missed _ _ _ _ number (family_missed _ _ _ _ (verdict c.opening.ensures c.in-No.is))
 
 pub missed_beyond_spec : {M : Type 1} → statement M
 missed_beyond_spec =

@@ -7,8 +7,8 @@ use borrow.Author.Rules.{rules}
 use Rattle.walk.proofs.step_lent.Statement.{statement}
 use Rattle.walk.proofs.step_lent.Tie as tie
 
-returns-2 : tie.Need-returns-2
-returns-2 c = refused_so _ _ _ _ _ _ (c.missed.ensures _ _ (verdict c.before.before.before.before.rank_below.ensures c.before.before.enum_told.given.1))
+returns-2 : tie.Need-returns
+returns-2 c = refused_so _ _ _ _ _ _ (c.missed.ensures _ _ (verdict c.rank_below.ensures c.in-No.is))
 
 pub step_lent_spec : {M : Type 1} → statement M
 step_lent_spec =
@@ -17,7 +17,7 @@ step_lent_spec =
     (λ c κs. search rules)
     (λ c. search rules)
     (λ c. search rules)
-    (λ c κs. both_pass _ _ (verdict c.before.before.before.rank_below.ensures c.before.enum-told2.given.1))
+    (λ c κs.let the_whole = both_pass _ _ (verdict c.rank_below.ensures c.in_default.is) in record { number_bound = the_whole.0; lists_bound = the_whole.1 })
     (λ c. search rules)
     (λ c. search rules)
     (λ c κs. search rules)

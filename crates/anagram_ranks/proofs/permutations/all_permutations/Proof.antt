@@ -13,11 +13,11 @@ use Rattle.anagram_ranks.proofs.permutations.all_permutations.Statement.{stateme
 use Rattle.anagram_ranks.proofs.permutations.all_permutations.Tie as tie
 
 -- the argument is within the limits
-answer : (c : tie.After-factorial) → c.factorial.result ≡ fits (factorial_of c.before.args.n)
-answer c = c.factorial.ensures ∙ within_in _ _ (le-leb _ places c.before.requires.0)
+answer : (c : tie.After-factorial) → c.factorial.result ≡ fits (factorial_of c.args.n)
+answer c = c.factorial.ensures ∙ within_in _ _ (le-leb _ places c.requires.0)
 
-returns : tie.Need-returns
-returns c = ⊎_elim (λ z. absurd (omega arith)) (λ z. absurd (omega arith)) (rw (answer c.before ∙ fits_small _ c.before.before.requires.1) at c.match.keys2)
+returns : tie.Need-returns-in_default
+returns c = ⊎_elim (λ z. absurd (omega arith)) (λ z. absurd (omega arith)) (rw (answer c.before ∙ fits_small _ c.requires.1) at c.in_default.in_default-own.keys2)
 
 pub all_permutations_spec : {M : Type 1} → statement M
 all_permutations_spec =
@@ -26,4 +26,4 @@ all_permutations_spec =
     (λ c κs. search rules)
     (λ c. search rules)
     returns
-    (λ c. sym (exactly _ _ (sym (answer c.before.before.before) ∙ c.before.v.given.1))))
+    (λ c. sym (exactly _ _ (sym (answer c.before) ∙ c.in-Exactly.is))))

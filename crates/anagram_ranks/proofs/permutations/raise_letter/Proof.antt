@@ -7,4 +7,7 @@ use Rattle.anagram_ranks.proofs.permutations.raise_letter.Statement.{statement}
 use Rattle.anagram_ranks.proofs.permutations.raise_letter.Tie as tie
 
 pub raise_letter_spec : {M : Type 1} → statement M
-raise_letter_spec = tie.close (tie.spec (λ c. search rules) (λ c. sym (raised-up _ _ c.if1.true)) (λ c. sym (raised-not _ _ c.if1.false)))
+raise_letter_spec = tie.close (tie.spec
+    (λ c. search rules)
+    (λ c. sym (raised-up _ _ c.if-a-b.true))
+    (λ c. sym (raised-not _ _ c.if-a-b.false)))

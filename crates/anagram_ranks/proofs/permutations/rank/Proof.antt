@@ -14,9 +14,9 @@ rank_spec =
     (tie.spec
     (λ c κs. search rules)
     (λ c. search rules)
-    (λ c. let n = length c.before.before.before.args.object.now in rw (c.before.all_ones.ensures.1 n (omega arith)) (sym (length-replicate n 1)))
+    (λ c. let n = length c.args.object.now in rw (c.all_ones-left.ensures.1 n (omega arith)) (sym (length-replicate n 1)))
     (λ c κs. search rules)
     (λ c κs.
-    let n = length c.before.before.before.before.args.object.now in
-    rw (c.before.before.all_ones.ensures.1 n (omega arith)) (omega (arith, total-ones n), (c.before.before.before.before.requires.1.0, c.all-permutations.ensures ∙ sym (multinomial_ones n))))
-    (λ c. rw (← c.before.before.before.before.all_ones.ensures.1 (length c.before.before.before.before.before.before.args.object.now) (omega arith)) c.before.rank-of.ensures))
+    let n = length c.args.object.now in
+    rw (c.all_ones-left.ensures.1 n (omega arith)) (omega (arith, total-ones n), (c.requires.object_value, c.all_permutations.ensures ∙ sym (multinomial_ones n))))
+    (λ c. rw (← c.all_ones-left.ensures.1 (length c.args.object.now) (omega arith)) c.rank_of.ensures))

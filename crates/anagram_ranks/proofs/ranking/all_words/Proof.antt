@@ -13,11 +13,11 @@ use Rattle.anagram_ranks.proofs.ranking.all_words.Statement.{statement}
 use Rattle.anagram_ranks.proofs.ranking.all_words.Tie as tie
 
 -- the arguments are within the limits
-answer : (c : tie.After-multinomial) → c.multinomial.result ≡ fits (multinomial_of c.before.before.args.counts.now)
-answer c = c.multinomial.ensures ∙ within_in _ _ (le-leb _ places c.before.before.requires.0)
+answer : (c : tie.After-multinomial) → c.multinomial.result ≡ fits (multinomial_of c.args.counts.now)
+answer c = c.multinomial.ensures ∙ within_in _ _ (le-leb _ places c.requires.0)
 
-returns : tie.Need-returns
-returns c = ⊎_elim (λ z. absurd (omega arith)) (λ z. absurd (omega arith)) (rw (answer c.before ∙ fits_small _ c.before.before.before.requires.1) at c.match.keys2)
+returns : tie.Need-returns-in_default
+returns c = ⊎_elim (λ z. absurd (omega arith)) (λ z. absurd (omega arith)) (rw (answer c.before ∙ fits_small _ c.requires.1) at c.in_default.in_default-own.keys2)
 
 pub all_words_spec : {M : Type 1} → statement M
 all_words_spec =
@@ -26,4 +26,4 @@ all_words_spec =
     (λ c κs. search rules)
     (λ c. search rules)
     returns
-    (λ c. sym (exactly _ _ (sym (answer c.before.before.before) ∙ c.before.v.given.1))))
+    (λ c. sym (exactly _ _ (sym (answer c.before) ∙ c.in-Exactly.is))))

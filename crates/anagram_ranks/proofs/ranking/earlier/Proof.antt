@@ -13,5 +13,5 @@ earlier_spec =
     tie.close
     (tie.spec
     (λ c κs. search rules)
-    (λ c κs. omega (arith, total-take-le c.before.before.args.left.now c.before.before.args.a))
-    (λ c. let a = c.before.before.before.args in c.share.ensures ∙ ap (λ (n : ℕ). a.words * n / a.m) c.before.left-before.ensures))
+    (λ c κs. omega (arith, total-take-le c.args.left.now c.args.a))
+    (λ c. let a = c.args in c.share.ensures ∙ ap (λ (n : ℕ). a.words * n / a.m) c.left_before.ensures))

@@ -12,6 +12,6 @@ pub left_before_spec : {M : Type 1} → statement M
 left_before_spec =
     tie.close
     (tie.spec
-    (λ c. sym (length-take-le c.before.before.args.a c.before.before.args.left.now (omega arith)))
-    (λ c κs. omega (arith, total-take-le c.before.before.args.left.now c.before.before.args.a))
+    (λ c. sym (length-take-le c.args.a c.args.left.now (omega arith)))
+    (λ c κs. omega (arith, total-take-le c.args.left.now c.args.a))
     (λ c. search rules))

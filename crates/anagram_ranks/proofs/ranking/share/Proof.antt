@@ -10,4 +10,11 @@ use Rattle.anagram_ranks.proofs.ranking.share.Tie as tie
 pub share_spec : {M : Type 1} → statement M
 share_spec =
     tie.close
-    (tie.spec (λ c. search rules) (λ c. let a = c.args in omega (arith, share_fits a.words a.s a.m (omega arith) (omega arith))) (λ c. search rules) (λ c. let a = c.args in omega (arith, rest_le a.words a.s a.m places (omega arith) (omega arith) (omega arith))) (λ c. search rules) (λ c. let a = c.args in omega (arith, share_fits a.words a.s a.m (omega arith) (omega arith))) (λ c. let a = c.args in share_parts a.words a.s a.m (omega arith)))
+    (tie.spec
+    (λ c. search rules)
+    (λ c. let a = c.args in omega (arith, share_fits a.words a.s a.m (omega arith) (omega arith)))
+    (λ c. search rules)
+    (λ c. let a = c.args in omega (arith, rest_le a.words a.s a.m places (omega arith) (omega arith) (omega arith)))
+    (λ c. search rules)
+    (λ c. let a = c.args in omega (arith, share_fits a.words a.s a.m (omega arith) (omega arith)))
+    (λ c. let a = c.args in share_parts a.words a.s a.m (omega arith)))

@@ -10,8 +10,7 @@ use Rattle.anagram_ranks.proofs.ranking.spend.Statement.{statement}
 use Rattle.anagram_ranks.proofs.ranking.spend.Tie as tie
 
 returns : tie.Need-returns
-returns c = let a = c.before.before.before.before.before.args in
-    (one_less-set a.left.now a.a, rw (c.before.share.ensures, c.before.before.wide.ensures, c.before.before.before.before.before.requires.0.0, ← c.before.before.before.before.before.requires.0.1.0, one_less-set) (letter_share a.left.now a.a (omega arith)))
+returns c = let a = c.args in record { left_after = one_less-set a.left.now a.a; value = rw (c.share-begun.ensures, c.wide.ensures, c.requires.words_value.0, ← c.requires.words_value.1.0, one_less-set) (letter_share a.left.now a.a (omega arith)) }
 
 pub spend_spec : {M : Type 1} → statement M
 spend_spec =
@@ -19,7 +18,7 @@ spend_spec =
     (tie.spec
     (λ c. search rules)
     (λ c κs. search rules)
-    (λ c κs. let a = c.before.before.before.args in omega (arith, total_take_more a.left.now a.a (omega arith), total-take-le a.left.now (a.a + 1)))
+    (λ c κs. let a = c.args in omega (arith, total_take_more a.left.now a.a (omega arith), total-take-le a.left.now (a.a + 1)))
     (λ c. search rules)
     (λ c. search rules)
     (λ c. search rules)

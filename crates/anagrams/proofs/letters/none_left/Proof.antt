@@ -10,10 +10,10 @@ use Rattle.basics.proofs.Totals.{total-drop, total_end}
 use Rattle.anagrams.proofs.letters.none_left.Statement.{statement}
 use Rattle.anagrams.proofs.letters.none_left.Tie as tie
 
-abbrev invariant-loop : tie.invariant-loop
+abbrev invariant-loop : tie.invariant-loop-i
 invariant-loop left i₀ i = (i ≤ length left) × (total (drop i left) ≡ total left)
 
-abbrev decreases-loop : tie.decreases-loop
+abbrev decreases-loop : tie.decreases-loop-i
 decreases-loop left i₀ i = length left - i
 
 pub none_left_spec : {M : Type 1} → statement M
@@ -24,8 +24,8 @@ none_left_spec =
     decreases-loop
     (λ c. omega arith)
     (λ c. omega arith)
-    (λ c. let l = c.before.before.before.before.args.left.now in sym (ne_eqb 0 (total l) (omega (arith, total-drop l c.before.before.before.loop.i (omega arith)))))
+    (λ c. let l = c.args.left.now in sym (ne_eqb 0 (total l) (omega (arith, total-drop l c.loop-i.i (omega arith)))))
     (λ c. omega arith)
     (λ c. omega arith)
-    (λ c. omega (arith, total-drop c.before.before.before.before.args.left.now c.before.before.before.loop.i (omega arith)))
-    (λ c. let l = c.before.before.args.left.now in sym (eq-eqb 0 (total l) (omega (arith, total_end l c.before.loop.i (omega arith))))))
+    (λ c. omega (arith, total-drop c.args.left.now c.loop-i.i (omega arith)))
+    (λ c. let l = c.args.left.now in sym (eq-eqb 0 (total l) (omega (arith, total_end l c.loop-i.i (omega arith))))))

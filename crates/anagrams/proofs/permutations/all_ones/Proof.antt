@@ -7,4 +7,5 @@ use Rattle.anagrams.proofs.permutations.all_ones.Statement.{statement}
 use Rattle.anagrams.proofs.permutations.all_ones.Tie as tie
 
 pub all_ones_spec : {M : Type 1} → statement M
-all_ones_spec = tie.close (tie.spec (λ c. (refl, λ n h. take-replicate longest_object n 1 h)))
+all_ones_spec = tie.close (tie.spec
+    (λ c. (refl, λ n h. take-replicate longest_object n 1 h)))

@@ -15,7 +15,7 @@ first_spec =
     (tie.spec
     (λ c κs. search rules)
     (λ c. search rules)
-    (λ c. let n = length c.before.before.before.args.object.now in rw (c.before.all_ones.ensures.1 n (omega arith)) (sym (length-replicate n 1)))
-    (λ c κs. let n = length c.before.before.before.before.args.object.now in rw (c.before.before.all_ones.ensures.1 n (omega arith)) (omega (arith, length-replicate {A = ℕ} n 1, total-ones n)))
+    (λ c. let n = length c.args.object.now in rw (c.all_ones-counts.ensures.1 n (omega arith)) (sym (length-replicate n 1)))
+    (λ c κs. let n = length c.args.object.now in rw (c.all_ones-counts.ensures.1 n (omega arith)) (omega (arith, length-replicate {A = ℕ} n 1, total-ones n)))
     (λ c. search rules)
-    (λ c. rw (← c.before.before.before.before.before.all_ones.ensures.1 (length c.before.before.before.before.before.before.before.args.object.now) (omega arith)) c.before.before.first.ensures))
+    (λ c. rw (← c.all_ones-counts.ensures.1 (length c.args.object.now) (omega arith)) c.first.ensures))

@@ -14,6 +14,6 @@ is_object_spec =
     (tie.spec
     (λ c κs. search rules)
     (λ c. search rules)
-    (λ c. let n = c.before.before.before.args.n in rw (c.before.all_ones.ensures.1 n (omega arith)) (sym (length-replicate n 1)))
-    (λ c κs. let n = c.before.before.before.args.n in rw (c.before.all_ones.ensures.1 n (omega arith)) (omega (arith, length-replicate {A = ℕ} n 1)))
-    (λ c. rw (← c.before.before.all_ones.ensures.1 c.before.before.before.before.args.n (omega arith)) c.is-object.ensures))
+    (λ c. let n = c.args.n in rw (c.all_ones-counts.ensures.1 n (omega arith)) (sym (length-replicate n 1)))
+    (λ c κs. let n = c.args.n in rw (c.all_ones-counts.ensures.1 n (omega arith)) (omega (arith, length-replicate {A = ℕ} n 1)))
+    (λ c. rw (← c.all_ones-counts.ensures.1 c.args.n (omega arith)) c.is_object.ensures))

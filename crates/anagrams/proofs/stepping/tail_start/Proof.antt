@@ -10,17 +10,16 @@ use borrow.Author.Rules.{rules}
 use Rattle.anagrams.proofs.stepping.tail_start.Statement.{statement}
 use Rattle.anagrams.proofs.stepping.tail_start.Tie as tie
 
-abbrev invariant-loop : tie.invariant-loop
+abbrev invariant-loop : tie.invariant-loop-p
 invariant-loop object up p₀ p = (p ≤ length object) × Spent up (drop (p - 1) object)
 
-abbrev decreases-loop : tie.decreases-loop
+abbrev decreases-loop : tie.decreases-loop-p
 decreases-loop object up p₀ p = p
 
-returns : tie.Need-returns invariant-loop decreases-loop
+returns : tie.Need-returns-then-precedes invariant-loop decreases-loop
 returns c =
-    let l = c.before.before.before.before.before.loop in
-    let e : l.p - 1 - 1 ≡ l.p - 2 = omega arith in
-    (l.invariant.1, λ h. (omega arith, rw e (sym c.before.precedes.ensures ∙ c.if1.true)))
+    let l = c.loop-p in
+    let e : l.p - 1 - 1 ≡ l.p - 2 = omega arith in record { spent = l.invariant.1; upper_bound = λ h. (omega arith, rw e (sym c.precedes.ensures ∙ c.if-precedes.true)) }
 
 pub tail_start_spec : {M : Type 1} → statement M
 tail_start_spec =
@@ -38,5 +37,5 @@ tail_start_spec =
     returns
     (λ c. omega arith)
     (λ c. omega arith)
-    (λ c. let l = c.before.before.before.before.before.loop in (omega arith, spent_longer _ _ _ c.before.before.before.before.loop-test.true l.invariant.0 (sym c.before.precedes.ensures ∙ c.if1.false) l.invariant.1))
-    (λ c. let e : c.before.loop.p - 1 ≡ 0 = omega arith in (rw e at c.before.loop.invariant.1, λ h. absurd (omega arith))))
+    (λ c. let l = c.loop-p in (omega arith, spent_longer _ _ _ c.loop-p-test.true l.invariant.0 (sym c.precedes.ensures ∙ c.if-precedes.false) l.invariant.1))
+    (λ c. let e : c.loop-p.p - 1 ≡ 0 = omega arith in record { spent = rw e at c.loop-p.invariant.1; upper_bound = λ h. absurd (omega arith) }))

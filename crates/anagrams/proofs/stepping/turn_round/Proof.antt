@@ -8,10 +8,10 @@ use Rattle.anagrams.proofs.Swaps.{Turning, turning_none, turning_more, turning_d
 use Rattle.anagrams.proofs.stepping.turn_round.Statement.{statement}
 use Rattle.anagrams.proofs.stepping.turn_round.Tie as tie
 
-abbrev invariant-loop : tie.invariant-loop
+abbrev invariant-loop : tie.invariant-loop-i
 invariant-loop part₀ k i₀ part i = (length part ≡ length part₀) × Turning part₀ part i
 
-abbrev decreases-loop : tie.decreases-loop
+abbrev decreases-loop : tie.decreases-loop-i
 decreases-loop part₀ k i₀ part i = length part₀ - i
 
 pub turn_round_spec : {M : Type 1} → statement M
@@ -26,6 +26,6 @@ turn_round_spec =
     (λ c κs. omega arith)
     (λ c. omega arith)
     (λ c. omega arith)
-    (λ c. let l = c.before.before.before.before.before.loop in let made = c.before.before.swap in (made.auto.0 ∙ l.invariant.0, rw made.ensures (turning_more _ l.invariant.0 c.before.before.before.before.loop-test.true l.invariant.1)))
-    (λ c. c.before.loop.invariant.0)
-    (λ c. turning_done _ c.before.loop.invariant.0 c.loop-test.false c.before.loop.invariant.1))
+    (λ c. let l = c.loop-i in let made = c.swap in (made.auto.object ∙ l.invariant.0, rw made.ensures (turning_more _ l.invariant.0 c.loop-i-test.true l.invariant.1)))
+    (λ c. c.loop-i.invariant.0)
+    (λ c. turning_done _ c.loop-i.invariant.0 c.loop-i-test.false c.loop-i.invariant.1))

@@ -13,7 +13,18 @@ pub last_column_spec : {M : Type 1} → statement M
 last_column_spec =
     tie.close
     (tie.spec
-    (λ c. search rules) (λ c. at c.match.keys1) (λ c. at c.match.keys2) (λ c. at c.match.keys3) (λ c. at c.match.keys4)
-    (λ c. at c.match.keys5) (λ c. at c.match.keys6) (λ c. at c.match.keys7) (λ c. at c.match.keys8) (λ c. at c.match.keys9)
-    (λ c. at c.match.keys10) (λ c. at c.match.keys11) (λ c. at c.match.keys12) (λ c. at c.match.keys13)
-    (λ c. past 13 last_columns refl (c.before.args.n - 68) c.match.rest))
+    (λ c. search rules)
+    (λ c. at c.in-0.is)
+    (λ c. at c.in-1.is)
+    (λ c. at c.in-2.is)
+    (λ c. at c.in-3.is)
+    (λ c. at c.in-4.is)
+    (λ c. at c.in-5.is)
+    (λ c. at c.in-6.is)
+    (λ c. at c.in-7.is)
+    (λ c. at c.in-8.is)
+    (λ c. at c.in-9.is)
+    (λ c. at c.in-10.is)
+    (λ c. at c.in-11.is)
+    (λ c. at c.in-12.is)
+    (λ c. past 13 last_columns refl (c.args.n - 68) c.in_default.in_default-own.rest))

@@ -28,28 +28,31 @@ field_below t = and 1 field-kinds.ps (falls 1 field-kinds.ps ◌<◌ μ-field t)
 abbrev claims : ℕ → field-lts.Claims
 claims t = (field_below t, field.Post, digits-reads.Asked, digits-reads.Learnt)
 
-field_returns : (t : ℕ) → field-lts.Need-returns (claims t) (field_at t) field.Post
+field_returns : (t : ℕ) → field-lts.Need-returns-then-part-eq0 (claims t) (field_at t) field.Post
 unfolding value_as
 field_returns t c = sym (field-none c.before.before.args.part.now c.if1.true)
 
-field_returns_2 : (t : ℕ) → field-lts.Need-returns-2 (claims t) (field_at t) field.Post
+field_returns_2 : (t : ℕ) → field-lts.Need-returns-then-part-eq32 (claims t) (field_at t) field.Post
 field_returns_2 t c =
     let x = c.before.before.before.before.before.before.args.part.now in
     c.field.ensures ∙ ap field_of (rest_is x 1) ∙ sym (field-blank x c.before.before.if2.true)
 
-field_returns_3 : (t : ℕ) → field-lts.Need-returns-3 (claims t) (field_at t) field.Post
+field_returns_3 : (t : ℕ) → field-lts.Need-returns-then-part-eq1 (claims t) (field_at t) field.Post
 unfolding value_as
 field_returns_3 t c = sym (field_lone c.before.before.before.before.before.before.before.args.part.now c.if4.true c.before.if3.true)
 
-field_returns_4 : (t : ℕ) → field-lts.Need-returns-4 (claims t) (field_at t) field.Post
+field_returns_4 : (t : ℕ) → field-lts.Need-returns-then-part-eq48 (claims t) (field_at t) field.Post
 unfolding value_as
 field_returns_4 t c = sym (field_leading c.before.before.before.before.before.before.before.args.part.now c.if4.false c.before.if3.true)
 
-field_returns_5 : (t : ℕ) → field-lts.Need-returns-5 (claims t) (field_at t) field.Post
+field_returns_5 : (t : ℕ) → field-lts.Need-returns (claims t) (field_at t) field.Post
 field_returns_5 t c = c.digits.ensures ∙ sym (field-number c.before.before.before.before.before.before.before.args.part.now c.before.before.before.before.before.if1.false c.before.before.before.if2.false c.before.if3.false)
 
 pub +field_spec : {M : Type 1} → statement M
-+field_spec = close μ-field λ t. field-lts.spec (claims t) (field_at t) field.Post
++field_spec = close μ-field λ t. field-lts.spec
+    (claims t)
+    (field_at t)
+    field.Post
     (field_returns t)
     (λ c. search rules)
     (λ c. search rules)

@@ -76,26 +76,26 @@ module _ {cs : List ℕ} {words size i x : ℕ} (l : Letter cs words size i x) w
 done : {cs : List ℕ} {words size i : ℕ} → Words cs words size i → i ≤ 0 → Exactly words ≡ fits (multinomial_of cs)
 done {i = i} c end = let z : i ≡ 0 = omega arith in rw z at c.answer
 
-abbrev invariant-loop : tie.invariant-loop
+abbrev invariant-loop : tie.invariant-loop-i
 invariant-loop counts words₀ size₀ i₀ words size i = Words counts words size i
 
-abbrev decreases-loop : tie.decreases-loop
+abbrev decreases-loop : tie.decreases-loop-i
 decreases-loop counts words₀ size₀ i₀ words size i = i
 
-letter : (c : tie.After-wide invariant-loop decreases-loop) → let a = c.before.before.before in Letter a.before.before.args.counts.now a.loop.words a.loop.length a.loop.i c.wide.result
-letter c = let a = c.before.before.before in record { behind = a.loop.invariant; limit = a.before.before.requires; pos = c.before.before.loop-test.true; is = c.wide.ensures }
+letter : (c : tie.After-wide-c invariant-loop decreases-loop) → let a = c.before.before.before in Letter a.args.counts.now a.loop-i.words a.loop-i.length a.loop-i.i c.wide-c.result
+letter c = let a = c.before.before.before in record { behind = a.loop-i.invariant; limit = a.requires; pos = c.loop-i-test.true; is = c.wide-c.ensures }
 
-returns-2 : tie.Need-returns-2 invariant-loop decreases-loop
+returns-2 : tie.Need-returns-in_default-times invariant-loop decreases-loop
 returns-2 c =
-    let w = c.before.before.before in
+    let w = c.before.before in
     let a = w.before.before in
-    product_stop (letter a.before) a.ways-out-of.ensures w.ways.given.1 c.before.times.ensures c.match2.keys2
+    product_stop (letter a.before.before) a.ways_out_of.ensures w.in-Exactly.is c.times.ensures c.in_default-times.in_default-times-own.keys2
 
-loop-again : tie.Need-loop-preserved invariant-loop decreases-loop
+loop-again : tie.Need-loop-i-preserved invariant-loop decreases-loop
 loop-again c =
-    let w = c.before.before.before.before.before in
+    let w = c.before.before in
     let a = w.before.before in
-    turn (letter a.before) a.ways-out-of.ensures w.ways.given.1 c.before.before.before.times.ensures c.before.more.given.1
+    turn (letter a.before.before) a.ways_out_of.ensures w.in-Exactly.is c.times.ensures c.in-Exactly-times.is
 
 pub of_binomials_spec : {M : Type 1} → statement M
 of_binomials_spec =
@@ -110,10 +110,10 @@ of_binomials_spec =
     (λ c. omega (arith, short (letter c)))
     (λ c κs. short (letter c))
     (λ c. search rules)
-    (λ c. factor_stop (letter c.before.before) c.before.ways-out-of.ensures c.match.keys2)
+    (λ c. factor_stop (letter c.before.before) c.ways_out_of.ensures c.in_default.in_default-own.keys2)
     (λ c κs. tt)
     (λ c. search rules)
     returns-2
     (λ c. omega arith)
     loop-again
-    (λ c. done c.before.loop.invariant c.loop-test.false))
+    (λ c. done c.loop-i.invariant c.loop-i-test.false))

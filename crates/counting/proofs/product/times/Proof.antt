@@ -26,10 +26,10 @@ pub times_spec : {M : Type 1} → statement M
 times_spec =
     tie.close
     (tie.spec
-    (λ c. record { fits = halves _ _ c.before.if1.true c.if2.true })
-    (λ c. sym (fits_small _ (halves _ _ c.before.if1.true c.if2.true)))
-    (λ c. sym (ap fits (rw c.if3.true (mul-zero c.before.before.args.x)) ∙ fits_small 0 (omega arith)))
+    (λ c. record { fits = halves _ _ c.if-x-lt4294967296.true c.if-y-lt4294967296.true })
+    (λ c. sym (fits_small _ (halves _ _ c.if-x-lt4294967296.true c.if-y-lt4294967296.true)))
+    (λ c. sym (ap fits (rw c.if-y-eq0.true (mul-zero c.args.x)) ∙ fits_small 0 (omega arith)))
     (λ c. search rules)
-    (λ c. record { fits = small _ _ c.before.if3.false c.if4.true })
-    (λ c. sym (fits_small _ (small _ _ c.before.if3.false c.if4.true)))
-    (λ c. sym (fits_large _ (large _ _ c.before.if3.false c.if4.false))))
+    (λ c. record { fits = small _ _ c.if-y-eq0.false c.if-x-y.true })
+    (λ c. sym (fits_small _ (small _ _ c.if-y-eq0.false c.if-x-y.true)))
+    (λ c. sym (fits_large _ (large _ _ c.if-y-eq0.false c.if-x-y.false))))

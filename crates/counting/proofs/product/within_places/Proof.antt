@@ -11,4 +11,6 @@ use Rattle.counting.proofs.product.within_places.Statement.{statement}
 use Rattle.counting.proofs.product.within_places.Tie as tie
 
 pub within_places_spec : {M : Type 1} → statement M
-within_places_spec = tie.close (tie.spec (λ c κs. search rules) (λ c. ap (λ (s : ℕ). leb s places) c.sum-to-limit.ensures ∙ to_limit (total c.before.before.args.counts.now) places))
+within_places_spec = tie.close (tie.spec
+    (λ c κs. search rules)
+    (λ c. ap (λ (s : ℕ). leb s places) c.sum_to_limit.ensures ∙ to_limit (total c.args.counts.now) places))

@@ -31,10 +31,10 @@ module _ (c : tie.Start) where
   at = c.args.c - 1
 
   key : Among (suc m) c.args.c
-  key = omega (arith, c.requires.0, c.requires.1.0)
+  key = omega (arith, c.requires.in_bounds, c.requires.le_c)
 
   whole : length x ≡ suc (suc m)
-  whole = omega (arith, c.requires.0)
+  whole = omega (arith, c.requires.in_bounds)
 
   less : length x - 2 ≡ m
   less = omega (arith, whole)
@@ -44,7 +44,7 @@ module _ (c : tie.Start) where
 
   small : (i : ℕ) → i < length (take m x) → get_or (take m x) i 0 ≤ m
   small i h =
-      let d = deranged m (take m x) (subst (λ k. is_derangement k (take k x) ≡ true) less c.requires.1.1) in
+      let d = deranged m (take m x) (subst (λ k. is_derangement k (take k x) ≡ true) less c.requires.object_value) in
       subst (λ k. get_or (take m x) k 0 ≤ m) (omega arith) (d.by.values (suc i) (omega (arith, h, front))).upto
 
 -- the labels have moved
@@ -53,41 +53,41 @@ module _ (c : tie.After-relabel) where
   start = c.before.before.before
 
   abbrev l : Bytes
-  l = c.relabel.new.1.1.0
+  l = c.relabel.new.part
 
   abbrev w : Bytes
   w = l ++ drop (m start) (x start)
 
   w_long : length w ≡ length (x start)
-  w_long = length_front (x start) l (m start) c.relabel.auto.1.1.0
+  w_long = length_front (x start) l (m start) c.relabel.auto.part
 
   mid_long : length (mid_of (at start) (end start - at start) w) ≡ end start - at start
   mid_long = mid_len (at start) (end start) w (omega (arith, w_long))
 
 -- and the places
-module _ (c : tie.After-shift-right) where
+module _ (c : tie.After-shift_right) where
   abbrev labels : tie.After-relabel
   labels = c.before.before.before.before
 
   abbrev p : Bytes
-  p = c.shift-right.new.0
+  p = c.shift_right.new.part
 
   abbrev z : Bytes
   z = put_mid (at (start labels)) (end (start labels) - at (start labels)) (w labels) p
 
   z_long : length z ≡ length (x (start labels))
-  z_long = same_len_mid (at (start labels)) (end (start labels) - at (start labels)) (w labels) p c.shift-right.auto.0 ∙ w_long labels
+  z_long = same_len_mid (at (start labels)) (end (start labels) - at (start labels)) (w labels) p c.shift_right.auto.part ∙ w_long labels
 
 returns : tie.Need-returns
 returns c =
     let e = c.before.before in
     let s = start (labels e) in
     let r = (labels e).relabel in
-    let n : end s + 1 ≡ suc (suc (m s)) = omega (arith, s.pre.0) in
-    let last : end s ≡ suc (m s) = omega (arith, s.pre.0) in
+    let n : end s + 1 ≡ suc (suc (m s)) = omega (arith, s.requires.in_bounds) in
+    let last : end s ≡ suc (m s) = omega (arith, s.requires.in_bounds) in
     ap₂ (λ v k. set (set (z e) (at s) v) k s.args.c) n last
-    ∙ added (m s) (end s) s.args.c (x s) last (whole s) (key s) (l (labels e)) (r.kept.1.1.0 ∙ front s) (λ i h. r.ensures i (rw (front s) h))
-    (p e) (e.shift-right.auto.0 ∙ mid_long (labels e)) (λ j h. e.shift-right.ensures j (rw (mid_long (labels e)) h))
+    ∙ added (m s) (end s) s.args.c (x s) last (whole s) (key s) (l (labels e)) (r.auto.part ∙ front s) (λ i h. r.ensures i (rw (front s) h))
+    (p e) (e.shift_right.auto.part ∙ mid_long (labels e)) (λ j h. e.shift_right.ensures j (rw (mid_long (labels e)) h))
     ∙ ap₂ (λ k j. pair k s.args.c (take j (x s))) (sym (whole s)) (sym (less s))
 
 pub add_pair_spec : {M : Type 1} → statement M
@@ -99,7 +99,7 @@ add_pair_spec =
     (λ c. search rules)
     (λ c. search rules)
     (λ c. sym (front c.before.before))
-    (λ c κs. λ _ i h. let s = c.before.before in omega (arith, small s i h, s.requires.0))
+    (λ c κs. λ _ i h. let s = c.before.before in omega (arith, small s i h, s.requires.in_bounds))
     (λ c. omega (arith, key c.before.before.before.before.before))
     (λ c. omega (arith, key c.before.before.before.before.before))
     (λ c. omega (arith, w_long c.before.before))

@@ -30,18 +30,18 @@ module _ (c : tie.Start) where
   at = c.args.c - 1
 
   key : Among (suc m) c.args.c
-  key = omega (arith, c.requires.0, c.requires.1.0)
+  key = omega (arith, c.requires.in_bounds, c.requires.le_c)
 
   whole : length x ≡ suc (suc m)
-  whole = omega (arith, c.requires.0)
+  whole = omega (arith, c.requires.in_bounds)
 
 -- the places have moved
-module _ (c : tie.After-shift-left) where
+module _ (c : tie.After-shift_left) where
   abbrev start : tie.Start
   start = c.before.before.before
 
   abbrev p : Bytes
-  p = c.shift-left.new.0
+  p = c.shift_left.new.part
 
   abbrev z : Bytes
   z = put_mid (at start) (end start - at start) (x start) p
@@ -50,10 +50,10 @@ module _ (c : tie.After-shift-left) where
   mid_long = mid_len (at start) (end start) (x start) (omega arith)
 
   p_long : length p ≡ end start - at start
-  p_long = c.shift-left.auto.0 ∙ mid_long
+  p_long = c.shift_left.auto.part ∙ mid_long
 
   z_long : length z ≡ length (x start)
-  z_long = same_len_mid (at start) (end start - at start) (x start) p c.shift-left.auto.0
+  z_long = same_len_mid (at start) (end start - at start) (x start) p c.shift_left.auto.part
 
   front : length (take (m start) z) ≡ m start
   front = length-take-le (m start) z (omega (arith, z_long))
@@ -62,12 +62,12 @@ returns : tie.Need-returns
 returns c =
     let e = c.before.before.before.before.before.before in
     let s = start e in
-    let r = c.before.before.relabel in
+    let r = c.relabel in
     let n : suc (suc (m s)) ≡ length (x s) = sym (whole s) in
     let less : length (x s) - 2 ≡ m s = omega (arith, whole s) in
-    ap (λ k. take k (r.new.1.1.0 ++ drop (m s) (z e))) less
-    ∙ dropped (m s) (end s) s.args.c (x s) (omega (arith, s.pre.0)) (whole s) (key s) (p e) (p_long e) (λ j h. e.shift-left.ensures j (rw (mid_long e) h))
-    r.new.1.1.0 (drop (m s) (z e)) (r.auto.1.1.0 ∙ front e) (λ i h. r.ensures i (rw (front e) h)) (s.pre.1.1 ∙ ap (λ k. get_or (x s) (k - 1) 0) (whole s))
+    ap (λ k. take k (r.new.part ++ drop (m s) (z e))) less
+    ∙ dropped (m s) (end s) s.args.c (x s) (omega (arith, s.requires.in_bounds)) (whole s) (key s) (p e) (p_long e) (λ j h. e.shift_left.ensures j (rw (mid_long e) h))
+    r.new.part (drop (m s) (z e)) (r.auto.part ∙ front e) (λ i h. r.ensures i (rw (front e) h)) (s.requires.c_value ∙ ap (λ k. get_or (x s) (k - 1) 0) (whole s))
     ∙ ap (λ k. unpair k (x s)) n
 
 pub drop_pair_spec : {M : Type 1} → statement M
@@ -84,5 +84,5 @@ drop_pair_spec =
     (λ c. omega (arith, z_long c.before.before))
     (λ c. sym (front c.before.before.before))
     (λ c κs. λ e. absurd (false≢true e))
-    (λ c. let e = c.before.before.before.before.before.before in length_front (z e) c.before.before.relabel.new.1.1.0 (m (start e)) c.before.before.relabel.auto.1.1.0 ∙ z_long e)
+    (λ c. let e = c.before.before.before.before.before.before in length_front (z e) c.relabel.new.part (m (start e)) c.relabel.auto.part ∙ z_long e)
     returns)

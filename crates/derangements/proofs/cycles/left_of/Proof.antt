@@ -13,5 +13,5 @@ left_of_spec =
     (tie.spec
     (λ c. search rules)
     (λ c. search rules)
-    (λ c. let a = c.before.args in rw (lt-ltb a.key a.n c.if1.true))
-    (λ c. let a = c.before.args in rw (le-ltb a.key a.n c.if1.false)))
+    (λ c. let a = c.args in rw (lt-ltb a.key a.n c.if-key-n.true))
+    (λ c. let a = c.args in rw (le-ltb a.key a.n c.if-key-n.false)))

@@ -13,10 +13,10 @@ use Rattle.derangements.proofs.cycles.place_of.Tie as tie
 abbrev Ahead : ℕ → Bytes → ℕ → Type 0
 Ahead number x i = (p : ℕ) × (i ≤ p) × (p < length x) × (get_or x p 0 ≡ number)
 
-abbrev invariant-loop : tie.invariant-loop
+abbrev invariant-loop : tie.invariant-loop-i
 invariant-loop number object i₀ i = Ahead number object i
 
-abbrev decreases-loop : tie.decreases-loop
+abbrev decreases-loop : tie.decreases-loop-i
 decreases-loop number object i₀ i = length object - i
 
 further : (number : ℕ) (x : Bytes) (i j : ℕ) → Ahead number x i → (get_or x i 0 ≡ number → ⊥) → j ≡ i + 1 → Ahead number x j
@@ -33,8 +33,8 @@ place_of_spec =
     invariant-loop
     decreases-loop
     (λ c. let (p, l, e) = c.requires in (p, omega arith, l, e))
-    (λ c. let (p, h, l, e) = c.before.loop.invariant in omega (arith, h, l))
-    (λ c. let (p, h, l, e) = c.before.before.loop.invariant in omega (arith, h, l))
-    (λ c. let (p, h, l, e) = c.before.before.loop.invariant in omega (arith, h, l))
-    (λ c. let a = c.before.before.before.args in let l = c.before.before.loop in further a.number a.object.now l.i (l.i + 1) l.invariant c.if1.true refl)
-    (λ c. let (p, h, l, e) = c.before.before.loop.invariant in (omega (arith, h, l), c.if1.false)))
+    (λ c. let (p, h, l, e) = c.loop-i.invariant in omega (arith, h, l))
+    (λ c. let (p, h, l, e) = c.loop-i.invariant in omega (arith, h, l))
+    (λ c. let (p, h, l, e) = c.loop-i.invariant in omega (arith, h, l))
+    (λ c. let a = c.args in let l = c.loop-i in further a.number a.object.now l.i (l.i + 1) l.invariant c.loop-i-test.true refl)
+    (λ c. let (p, h, l, e) = c.loop-i.invariant in (omega (arith, h, l), c.loop-i-test.false)))

@@ -21,31 +21,30 @@ module _ (c : tie.Start) where
   front : length (take (n - 1) z) ≡ n - 1
   front = length-take-le (n - 1) z (omega arith)
 
-add-pair-requires : tie.Need-add-pair-requires
+add-pair-requires : tie.Need-add_pair-requires
 add-pair-requires c κs =
     let s = c.before.before.before in
-    let h : n s - 1 < s.args.key = omega (arith, c.before.if1.true, s.requires.0.0) in
-    (s.requires.0, ((omega (arith, h), omega (arith, s.requires.1.upto, s.requires.0.0)), front_is (n s) (z s) s.args.key s.requires.0.0 h s.requires.1))
+    let h : n s - 1 < s.args.key = omega (arith, c.if-n-key.true, s.requires.in_bounds.0) in record { in_bounds = s.requires.in_bounds; le_c = (omega (arith, h), omega (arith, s.requires.keyed.upto, s.requires.in_bounds.0)); object_value = front_is (n s) (z s) s.args.key s.requires.in_bounds.0 h s.requires.keyed }
 
-returns : tie.Need-returns
+returns : tie.Need-returns-then-n-key
 returns c =
     let s = c.before.before.before.before.before.before in
-    put-pair (n s) (z s) c.before.before.add-pair.new.1.0 s.args.key s.requires.0.0 (omega (arith, c.before.before.before.before.if1.true, s.requires.0.0)) c.before.before.add-pair.ensures
+    put-pair (n s) (z s) c.add_pair.new.object s.args.key s.requires.in_bounds.0 (omega (arith, c.if-n-key.true, s.requires.in_bounds.0)) c.add_pair.ensures
 
-low : (c : tie.Else1) → let s = c.before.before in s.args.key ≤ n s - 1
-low c = omega (arith, c.if1.false)
+low : (c : tie.Else-n-key) → let s = c.before.before in s.args.key ≤ n s - 1
+low c = omega (arith, c.if-n-key.false)
 
 -- where the search found the key
-at_place : (c : tie.After-place-of) → let s = c.before.before.before.before in (c.place_of.result < n s - 1) × (get_or (z s) c.place_of.result 0 ≡ s.args.key)
+at_place : (c : tie.After-place_of-at) → let s = c.before.before.before in (c.place_of-at.result < n s - 1) × (get_or (z s) c.place_of-at.result 0 ≡ s.args.key)
 at_place c =
-    let s = c.before.before.before.before in
-    let h : c.place_of.result < n s - 1 = omega (arith, c.place_of.ensures.0, front s) in
-    (h, sym (get_or-take (n s - 1) (z s) c.place_of.result 0 h) ∙ c.place_of.ensures.1)
+    let s = c.before.before.before in
+    let h : c.place_of-at.result < n s - 1 = omega (arith, c.place_of-at.ensures.0, front s) in
+    (h, sym (get_or-take (n s - 1) (z s) c.place_of-at.result 0 h) ∙ c.place_of-at.ensures.1)
 
-returns-2 : tie.Need-returns-2
+returns-2 : tie.Need-returns
 returns-2 c =
-    let s = c.before.before.before.before in
-    put_cycle (n s) (z s) s.args.key c.place_of.result s.requires.0.0 refl s.requires.1 (low c.before.before) (at_place c).0 (at_place c).1
+    let s = c.before.before.before in
+    put_cycle (n s) (z s) s.args.key c.place_of-at.result s.requires.in_bounds.0 refl s.requires.keyed (low c.before) (at_place c).0 (at_place c).1
 
 pub put_together_spec : {M : Type 1} → statement M
 put_together_spec =
@@ -59,9 +58,9 @@ put_together_spec =
     (λ c. search rules)
     returns
     (λ c. search rules)
-    (λ c. sym (front c.before.before.before))
-    (λ c κs. let s = c.before.before.before in key_in_front (n s) (z s) s.args.key s.requires.0.0 refl (low c.before) s.requires.1)
+    (λ c. sym (front c.before.before))
+    (λ c κs. let s = c.before.before in key_in_front (n s) (z s) s.args.key s.requires.in_bounds.0 refl (low c) s.requires.keyed)
     (λ c. omega (arith, (at_place c).0))
-    (λ c. simp length-set (omega (arith, c.before.before.before.before.requires.0)))
+    (λ c. simp length-set (omega (arith, c.requires.in_bounds)))
     (λ c. search rules)
     returns-2)

@@ -34,9 +34,9 @@ claims t = (write_last_below t, write-last.Post)
 
 module _ (t : ℕ) where
   -- two places or more, and not three
-  module _ (c : write-last-lts.Else2 (claims t) (write_last_at t) write-last.Post) where
+  module _ (c : write-last-lts.Else-n-eq3 (claims t) (write_last_at t) write-last.Post) where
     abbrev x : Bytes
-    x = c.before.before.before.args.object.now
+    x = c.args.object.now
 
     abbrev n : ℕ
     n = length x
@@ -45,7 +45,7 @@ module _ (t : ℕ) where
     w = set (set x (n - 2) n) (n - 2 + 1) (n - 2 + 1)
 
     two : 2 ≤ n
-    two = omega (arith, c.before.if1.false, c.before.before.before.requires.1.1)
+    two = omega (arith, c.if-n-eq0.false, c.requires.1.fact)
 
     w_long : length w ≡ n
     w_long = length-set (set x (n - 2) n) (n - 2 + 1) (n - 2 + 1) ∙ length-set x (n - 2) n
@@ -53,26 +53,29 @@ module _ (t : ℕ) where
     front : length (take (n - 2) w) ≡ n - 2
     front = length-take-le (n - 2) w (omega (arith, w_long))
 
-  returns-3 : write-last-lts.Need-returns-3 (claims t) (write_last_at t) write-last.Post
+  returns-3 : write-last-lts.Need-returns (claims t) (write_last_at t) write-last.Post
   returns-3 c =
       let e = c.before.before.before.before in
-      let part : Bytes = c.before.before.write-last.new.0 in
-      let here : Edge true (derangements (n e - 2)) part = subst (λ k. Edge true (derangements k) part) (front e) (latest c.before.before.write-last.ensures) in
-      edge_last (last_written (n e) (x e) part (two e) e.if2.false refl here)
+      let part : Bytes = c.write_last.new.object in
+      let here : Edge true (derangements (n e - 2)) part = subst (λ k. Edge true (derangements k) part) (front e) (latest c.write_last.ensures) in
+      edge_last (last_written (n e) (x e) part (two e) e.if-n-eq3.false refl here)
 
 pub +write_last_spec : {M : Type 1} → statement M
-+write_last_spec = close μ-write-last λ t. write-last-lts.spec (claims t) (write_last_at t) write-last.Post
-    (λ c. last_empty c.before.before.args.object.now c.if1.true)
-    (λ c. omega (arith, c.if2.true))
-    (λ c. simp length-set (omega (arith, c.if2.true)))
-    (λ c. simp length-set (omega (arith, c.if2.true)))
++write_last_spec = close μ-write-last λ t. write-last-lts.spec
+    (claims t)
+    (write_last_at t)
+    write-last.Post
+    (λ c. last_empty c.args.object.now c.if-n-eq0.true)
+    (λ c. omega (arith, c.if-n-eq3.true))
+    (λ c. simp length-set (omega (arith, c.if-n-eq3.true)))
+    (λ c. simp length-set (omega (arith, c.if-n-eq3.true)))
     (λ c. search rules)
-    (λ c. edge_last (last_three_written c.before.before.before.args.object.now c.if2.true))
+    (λ c. edge_last (last_three_written c.args.object.now c.if-n-eq3.true))
     (λ c. omega (arith, two t c))
-    (λ c. omega (arith, c.before.before.before.requires.1.0))
+    (λ c. omega (arith, c.requires.1.object_len_bound))
     (λ c. omega (arith, two t c))
     (λ c. search rules)
-    (λ c. omega (arith, c.before.before.before.requires.1.0))
+    (λ c. omega (arith, c.requires.1.object_len_bound))
     (λ c. search rules)
     (λ c. simp length-set (omega (arith, two t c)))
     (λ c. omega (arith, w_long t c))
@@ -80,6 +83,6 @@ pub +write_last_spec : {M : Type 1} → statement M
     (λ c κs.
     let s = c.before.before.before.before in
     let e = c.before in
-    (omega (arith, s.requires.0, front t e, two t e), (omega (arith, front t e, s.requires.1.0), λ one. e.if2.false (omega (arith, front t e, one, two t e)))))
-    (λ c. let e = c.before.before.before.before in length_front (w t e) c.before.before.write-last.new.0 (n t e - 2) c.before.before.write-last.auto.0 ∙ w_long t e)
+    (omega (arith, s.requires.0, front t e, two t e), (omega (arith, front t e, s.requires.1.object_len_bound), λ one. e.if-n-eq3.false (omega (arith, front t e, one, two t e)))))
+    (λ c. let e = c.before.before.before.before in length_front (w t e) c.write_last.new.object (n t e - 2) c.write_last.auto.object ∙ w_long t e)
     (returns-3 t)

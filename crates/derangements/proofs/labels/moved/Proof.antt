@@ -16,9 +16,9 @@ unfolding lowered raised
 moved_spec =
     tie.close
     (tie.spec
-    (λ c. omega (arith, c.before.before.requires c.before.if1.true))
+    (λ c. omega (arith, c.requires c.if-up.true))
     (λ c. search rules)
-    (λ c. let a = c.before.before.args in rw c.before.if1.true (add-one a.label ∙ sym (ap (λ t. cond t (suc a.label) a.label) (le-leb a.c a.label c.if2.true))))
-    (λ c. let a = c.before.before.args in rw c.before.if1.true (sym (ap (λ t. cond t (suc a.label) a.label) (lt-leb a.c a.label c.if2.false))))
-    (λ c. let a = c.before.before.args in rw c.before.if1.false (sym (ap (λ t. cond t (a.label - 1) a.label) (lt-ltb a.c a.label c.if3.true))))
-    (λ c. let a = c.before.before.args in rw c.before.if1.false (sym (ap (λ t. cond t (a.label - 1) a.label) (le-ltb a.c a.label c.if3.false)))))
+    (λ c. let a = c.args in rw c.if-up.true (add-one a.label ∙ sym (ap (λ t. cond t (suc a.label) a.label) (le-leb a.c a.label c.if-c-label.true))))
+    (λ c. let a = c.args in rw c.if-up.true (sym (ap (λ t. cond t (suc a.label) a.label) (lt-leb a.c a.label c.if-c-label.false))))
+    (λ c. let a = c.args in rw c.if-up.false (sym (ap (λ t. cond t (a.label - 1) a.label) (lt-ltb a.c a.label c.if-c-label-2.true))))
+    (λ c. let a = c.args in rw c.if-up.false (sym (ap (λ t. cond t (a.label - 1) a.label) (le-ltb a.c a.label c.if-c-label-2.false)))))

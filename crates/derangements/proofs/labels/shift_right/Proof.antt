@@ -9,16 +9,16 @@ use Rattle.derangements.proofs.Loops.{PassedDown, down_start, down_step}
 use Rattle.derangements.proofs.labels.shift_right.Statement.{statement}
 use Rattle.derangements.proofs.labels.shift_right.Tie as tie
 
-abbrev invariant-loop : tie.invariant-loop
+abbrev invariant-loop : tie.invariant-loop-i
 invariant-loop part₀ i₀ part i = (i < length part₀) × PassedDown (λ p. get_or part₀ (p - 1) 0) part₀ part i
 
-abbrev decreases-loop : tie.decreases-loop
+abbrev decreases-loop : tie.decreases-loop-i
 decreases-loop part₀ i₀ part i = i
 
-loop-again : tie.Need-loop-preserved invariant-loop decreases-loop
+loop-again : tie.Need-loop-i-preserved invariant-loop decreases-loop
 loop-again c =
-    let x = c.before.before.before.args.part.now in
-    let l = c.before.before.loop in
+    let x = c.args.part.now in
+    let l = c.loop-i in
     (omega (arith, l.invariant.0), down_step (λ p. get_or x (p - 1) 0) x l.part l.i (get_or l.part (l.i - 1) 0) l.invariant.1 (omega arith) l.invariant.0 (l.invariant.1.rest (l.i - 1) (omega arith)))
 
 pub shift_right_spec : {M : Type 1} → statement M
@@ -30,10 +30,10 @@ shift_right_spec =
     (λ c. search rules)
     (λ c. let x = c.args.part.now in (omega (arith, c.requires), down_start (λ p. get_or x (p - 1) 0) x))
     (λ c. search rules)
-    (λ c. omega (arith, c.before.before.loop.invariant.0, c.before.before.loop.invariant.1.long))
-    (λ c. omega (arith, c.before.before.loop.invariant.0, c.before.before.loop.invariant.1.long))
+    (λ c. omega (arith, c.loop-i.invariant.0, c.loop-i.invariant.1.long))
+    (λ c. omega (arith, c.loop-i.invariant.0, c.loop-i.invariant.1.long))
     (λ c. search rules)
     (λ c. search rules)
     loop-again
-    (λ c. c.before.loop.invariant.1.long)
-    (λ c i h. let x = c.before.before.args.part.now in let l = c.before.loop in l.invariant.1.done (suc i) (omega arith) h ∙ ap (λ p. get_or x p 0) (omega arith)))
+    (λ c. c.loop-i.invariant.1.long)
+    (λ c i h. let x = c.args.part.now in let l = c.loop-i in l.invariant.1.done (suc i) (omega arith) h ∙ ap (λ p. get_or x p 0) (omega arith)))

@@ -43,11 +43,11 @@ abbrev claims : ℕ → step-lts.Claims
 claims t = (take-apart-reads.Asked, take-apart-reads.Learnt, left-of-reads.Asked, left-of-reads.Learnt, step_below t, step.Post, turn-reads.Asked, turn-reads.Learnt, put-together-reads.Asked, put-together-reads.Learnt)
 
 module _ (t : ℕ) where
-  two : (c : step-lts.Else1 (claims t) (step_at t) step.Post) → 2 ≤ length c.before.before.args.object.now
-  two c = let s = c.before.before in two-places (length s.args.object.now) s.args.object.now s.requires.1.1 c.if1.false
+  two : (c : step-lts.Else-object-eq0 (claims t) (step_at t) step.Post) → 2 ≤ length c.args.object.now
+  two c = let s = c.before.before in two-places (length s.args.object.now) s.args.object.now s.requires.1.object_value c.if-object-eq0.false
 
   -- the key is taken off
-  module _ (c : step-lts.After-left-of (claims t) (step_at t) step.Post) where
+  module _ (c : step-lts.After-left_of-left (claims t) (step_at t) step.Post) where
     abbrev start : step-lts.Start (claims t) (step_at t) step.Post
     start = c.before.before.before.before.before.before.before
 
@@ -61,22 +61,22 @@ module _ (t : ℕ) where
     n = length x
 
     abbrev key : ℕ
-    key = c.before.before.before.take-apart.result
+    key = c.take_apart-key.result
 
     abbrev z : Bytes
-    z = c.before.before.before.take-apart.new.0
+    z = c.take_apart-key.new.object
 
     abbrev left : ℕ
-    left = c.left_of_lem.result
+    left = c.left_of-left.result
 
     off : TakenApart n x key z
-    off = c.before.before.before.take-apart.ensures
+    off = c.take_apart-key.ensures
 
     z_long : length z ≡ n
-    z_long = c.before.before.before.take-apart.auto.0
+    z_long = c.take_apart-key.auto.object
 
     is-left : left ≡ left_of n key
-    is-left = c.left_of_lem.ensures ∙ ap (λ k. left_of k key) z_long
+    is-left = c.left_of-left.ensures ∙ ap (λ k. left_of k key) z_long
 
     more : 2 ≤ n
     more = two c.before.before.before.before.before
@@ -96,20 +96,20 @@ module _ (t : ℕ) where
 
   -- what is left was asked to move
   module _ (c : step-lts.After-step (claims t) (step_at t) step.Post) where
-    abbrev place : step-lts.After-left-of (claims t) (step_at t) step.Post
+    abbrev place : step-lts.After-left_of-left (claims t) (step_at t) step.Post
     place = c.before.before
 
     abbrev part : Bytes
-    part = c.step.new.1.0
+    part = c.step.new.object
 
     abbrev w : Bytes
     w = part ++ drop (left place) (z place)
 
     w_long : length w ≡ n place
-    w_long = length_front (z place) part (left place) c.step.auto.1.0 ∙ z_long place
+    w_long = length_front (z place) part (left place) c.step.auto.object ∙ z_long place
 
     again : take (left_of (n place) (key place)) w ≡ part
-    again = ap (λ k. take k w) (sym (is-left place)) ∙ take_at part (drop (left place) (z place)) (left place) (c.step.auto.1.0 ∙ front place)
+    again = ap (λ k. take k w) (sym (is-left place)) ∙ take_at part (drop (left place) (z place)) (left place) (c.step.auto.object ∙ front place)
 
     answered : AfterStep (up place) (derangements (left_of (n place) (key place))) (take (left_of (n place) (key place)) (z place)) c.step.result part
     answered = subst₂ (λ k y. AfterStep (up place) (derangements k) y c.step.result part) (front place ∙ is-left place) (at_left place) c.step.ensures
@@ -141,39 +141,42 @@ module _ (t : ℕ) where
       put : join (length w) (key place) (take (left_of (length w) (key place)) w) ≡ join (n place) (key place) part
       put = ap (λ k. join k (key place) (take (left_of k (key place)) w)) w_long ∙ ap (join (n place) (key place)) again
 
-  returns-2 : step-lts.Need-returns-2 (claims t) (step_at t) step.Post
+  returns-2 : step-lts.Need-returns-in_default (claims t) (step_at t) step.Post
   returns-2 c =
-      let e = c.before.before.before.before.before.before.before.before in
-      let told = c.before.before.before.before.enum-told2.given.1 in
+      let e = c.before.before.before.before.before.before.before in
+      let told = c.in_default.is in
       let p = place e in
-      subst₂ (λ k y. AfterStep (up p) (derangements k) y c.before.before.turn.result c.before.before.turn.new.1.1.0) (w_long e) (whole e told) c.before.before.turn.ensures
+      subst₂ (λ k y. AfterStep (up p) (derangements k) y c.turn.result c.turn.new.object) (w_long e) (whole e told) c.turn.ensures
 
-  returns-3 : step-lts.Need-returns-3 (claims t) (step_at t) step.Post
+  returns-3 : step-lts.Need-returns (claims t) (step_at t) step.Post
   returns-3 c =
-      let e = c.before.before.before.before.before.before.before.before in
-      let told = c.before.before.before.before.enum_told.given.1 in
+      let e = c.before.before.before.before.before.before.before in
+      let told = c.in-Moved.is in
       let p = place e in
-      subst₂ (Beside (up p) (derangements (n p))) (off p).whole (sym (c.before.before.put-together.ensures ∙ put e told)) ((here p).inside (part e) (moved e told))
+      subst₂ (Beside (up p) (derangements (n p))) (off p).whole (sym (c.put_together.ensures ∙ put e told)) ((here p).inside (part e) (moved e told))
 
   step-requires : step-lts.Need-step-requires (claims t) (step_at t) step.Post
   step-requires c κs =
       let p = c.before in
       let s = start p in
-      (omega (arith, s.pre.0, front p, small p), (omega (arith, front p, small p, s.pre.1.0), subst₂ (λ k y. is_derangement k y ≡ true) (sym (front p ∙ is-left p)) (sym (at_left p)) (off p).keyed.object))
+      (omega (arith, s.requires.0, front p, small p), (omega (arith, front p, small p, s.requires.1.object_len_bound), subst₂ (λ k y. is_derangement k y ≡ true) (sym (front p ∙ is-left p)) (sym (at_left p)) (off p).keyed.object))
 
 pub +step_spec : {M : Type 1} → statement M
-+step_spec = close μ-step λ t. step-lts.spec (claims t) (step_at t) step.Post
-    (λ c. stays_empty c.before.before.args.up c.before.before.args.object.now c.if1.true)
-    (λ c κs. let s = c.before.before.before in ((two t c.before, s.requires.1.0), s.requires.1.1))
-    (λ c κs. omega (arith, c.before.before.take-apart.auto.0, two t c.before.before.before.before))
++step_spec = close μ-step λ t. step-lts.spec
+    (claims t)
+    (step_at t)
+    step.Post
+    (λ c. stays_empty c.args.up c.args.object.now c.if-object-eq0.true)
+    (λ c κs. let s = c.before.before.before in record { in_bounds = (two t c.before, s.requires.1.object_len_bound); object_value = s.requires.1.object_value })
+    (λ c κs. omega (arith, c.take_apart-key.auto.object, two t c.before.before.before.before))
     (λ c. omega (arith, small t c, z_long t c))
     (λ c. sym (front t c.before))
     (step-requires t)
     (λ c. search rules)
     (λ c. search rules)
-    (λ c κs. let e = c.before.before.before.before.before in let p = place t e in ((omega (arith, w_long t e, more t p), omega (arith, w_long t e, (start t p).pre.1.0)), ready t e c.before.enum-told2.given.1))
-    (λ c. c.before.before.turn.auto.1.1.0 ∙ w_long t c.before.before.before.before.before.before.before.before)
+    (λ c κs. let e = c.before.before.before.before in let p = place t e in ((omega (arith, w_long t e, more t p), omega (arith, w_long t e, (start t p).requires.1.object_len_bound)), ready t e c.in_default.is))
+    (λ c. c.turn.auto.object ∙ w_long t c.before.before.before.before.before.before.before)
     (returns-2 t)
-    (λ c κs. let e = c.before.before.before.before.before in let p = place t e in ((omega (arith, w_long t e, more t p), omega (arith, w_long t e, (start t p).pre.1.0)), keyed t e c.before.enum_told.given.1))
-    (λ c. c.before.before.put-together.auto.1.0 ∙ w_long t c.before.before.before.before.before.before.before.before)
+    (λ c κs. let e = c.before.before.before.before in let p = place t e in record { in_bounds = (omega (arith, w_long t e, more t p), omega (arith, w_long t e, (start t p).requires.1.object_len_bound)); keyed = keyed t e c.in-Moved.is })
+    (λ c. c.put_together.auto.object ∙ w_long t c.before.before.before.before.before.before.before)
     (returns-3 t)

@@ -11,6 +11,6 @@ can_go_spec =
     tie.close
     (tie.spec
     (λ c κs. search rules)
-    (λ c. rw (c.before.if1.true, c.high-key.ensures))
+    (λ c. rw (c.if-up.true, c.high_key.ensures))
     (λ c κs. search rules)
-    (λ c. rw (c.before.if1.false, c.low-key.ensures)))
+    (λ c. rw (c.if-up.false, c.low_key.ensures)))

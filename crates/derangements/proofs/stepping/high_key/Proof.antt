@@ -14,5 +14,5 @@ high_key_spec =
     (λ c. search rules)
     (λ c. search rules)
     (λ c. search rules)
-    (λ c. rw (eq-eqb c.before.args.n 3 c.if1.true))
-    (λ c. rw (ne_eqb c.before.args.n 3 c.if1.false)))
+    (λ c. rw (eq-eqb c.args.n 3 c.if-n-eq3.true))
+    (λ c. rw (ne_eqb c.args.n 3 c.if-n-eq3.false)))

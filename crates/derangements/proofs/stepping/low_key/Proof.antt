@@ -7,4 +7,6 @@ use Rattle.derangements.proofs.stepping.low_key.Tie as tie
 
 pub low_key_spec : {M : Type 1} → statement M
 unfolding low_key
-low_key_spec = tie.close (tie.spec (λ c. rw (eq-eqb c.before.args.n 2 c.if1.true)) (λ c. rw (ne_eqb c.before.args.n 2 c.if1.false)))
+low_key_spec = tie.close (tie.spec
+    (λ c. rw (eq-eqb c.args.n 2 c.if-n-eq2.true))
+    (λ c. rw (ne_eqb c.args.n 2 c.if-n-eq2.false)))

@@ -24,8 +24,11 @@ said up n x y End (e, h) = ap (λ z. (END, z)) e ∙ stops (lists n) h
 
 returns : tie.Need-returns
 returns c =
-    let a = c.before.before.before.before.before.args in
-    said a.up _ a.object.now _ c.before.before.step.result c.before.before.step.ensures
+    let a = c.args in
+    said a.up _ a.object.now _ c.step.result c.step.ensures
 
 pub step_object_spec : {M : Type 1} → statement M
-step_object_spec = tie.close (tie.spec (λ c κs. search rules) (λ c. search rules) returns)
+step_object_spec = tie.close (tie.spec
+    (λ c κs.record { object_len_bound = search rules; object_value = search rules })
+    (λ c. search rules)
+    returns)

@@ -27,18 +27,18 @@ module _ (c : tie.Start) where
   n = length z
 
   here : Turns c.args.up n c.args.key (take (left_of n c.args.key) z)
-  here = turns c.args.up n c.args.key z c.requires.0.0 c.requires.1.0
+  here = turns c.args.up n c.args.key z c.requires.in_bounds.0 c.requires.keyed
 
 -- no key beyond
-returns : tie.Need-returns
+returns : tie.Need-returns-then-not-can_go
 returns c =
     let s = c.before.before.before.before.before.before.before in
     let t = c.before.before.before.before in
-    let stays : goes s.args.up (n s) s.args.key ≡ false = sym t.before.can-go.ensures ∙ not-true t.before.can-go.result t.if1.true in
-    (c.before.before.put-together.ensures, (here s).edge stays s.requires.1.1)
+    let stays : goes s.args.up (n s) s.args.key ≡ false = sym t.can_go.ensures ∙ not-true t.can_go.result t.if-not-can_go.true-raw in
+    (c.put_together.ensures, (here s).edge stays s.requires.edge)
 
 -- the key beside it
-module _ (c : tie.After-left-of) where
+module _ (c : tie.After-left_of-left) where
   abbrev start : tie.Start
   start = c.before.before.before.before.before
 
@@ -46,72 +46,72 @@ module _ (c : tie.After-left-of) where
   up = start.args.up
 
   abbrev moved : ℕ
-  moved = c.before.beside.result
+  moved = c.beside-moved.result
 
   abbrev left : ℕ
-  left = c.left_of_lem.result
+  left = c.left_of-left.result
 
   can : goes up (n start) start.args.key ≡ true
-  can = sym c.before.before.before.can-go.ensures ∙ not-false c.before.before.before.can-go.result c.before.before.if1.false
+  can = sym c.can_go.ensures ∙ not-false c.can_go.result c.if-not-can_go.false-raw
 
   new : (1 ≤ moved) × (moved ≤ 2 * (n start - 1)) × (left ≡ 1 → ⊥)
   new =
       let b = (here start).beyond can in
-      let key = c.before.beside.ensures in
-      (omega (arith, b.0, key), omega (arith, b.1, key), λ one. b.2 (ap (left_of (n start)) (sym key) ∙ sym c.left_of_lem.ensures ∙ one))
+      let key = c.beside-moved.ensures in
+      (omega (arith, b.0, key), omega (arith, b.1, key), λ one. b.2 (ap (left_of (n start)) (sym key) ∙ sym c.left_of-left.ensures ∙ one))
 
   small : left < n start
-  small = omega (arith, c.left_of_lem.ensures, left_below (n start) moved start.pre.0.0)
+  small = omega (arith, c.left_of-left.ensures, left_below (n start) moved start.requires.in_bounds.0)
 
   front : length (take left (z start)) ≡ left
   front = length-take-le left (z start) (omega (arith, small))
 
 -- behind what the writer of ends wrote
-module _ (c : tie.After-write-end) where
-  abbrev place : tie.After-left-of
+module _ (c : tie.After-write_end) where
+  abbrev place : tie.After-left_of-left
   place = c.before.before
 
   abbrev part : Bytes
-  part = c.write_end_lem.new.1.0
+  part = c.write_end.new.object
 
   abbrev w : Bytes
   w = part ++ drop (left place) (z (start place))
 
   w_long : length w ≡ n (start place)
-  w_long = length_front (z (start place)) part (left place) c.write_end_lem.auto.1.0
+  w_long = length_front (z (start place)) part (left place) c.write_end.auto.object
 
   again : take (left_of (n (start place)) (moved place)) w ≡ part
-  again = rw (← place.left_of_lem.ensures) (take_at part (drop (left place) (z (start place))) (left place) (c.write_end_lem.auto.1.0 ∙ front place))
+  again = rw (← place.left_of-left.ensures) (take_at part (drop (left place) (z (start place))) (left place) (c.write_end.auto.object ∙ front place))
 
   edge : Edge (not (up place)) (derangements (left_of (n (start place)) (moved place))) part
-  edge = subst (λ k. Edge (not (up place)) (derangements k) part) (front place ∙ place.left_of_lem.ensures) c.write_end_lem.ensures
+  edge = subst (λ k. Edge (not (up place)) (derangements k) part) (front place ∙ place.left_of-left.ensures) c.write_end.ensures
 
   keyed : Keyed (length w) (moved place) w
   keyed = subst (λ k. Keyed k (moved place) w) (sym w_long) (record { from = (new place).0; upto = (new place).1; object = rw again (edge_object (left_of (n (start place)) (moved place)) edge) })
 
-returns-2 : tie.Need-returns-2
+returns-2 : tie.Need-returns
 returns-2 c =
     let e = c.before.before.before.before.before.before in
     let p = place e in
     let s = start p in
-    let key = p.before.beside.ensures in
+    let key = p.beside-moved.ensures in
     let whole : join (length (w e)) (moved p) (take (left_of (length (w e)) (moved p)) (w e)) ≡ join (n s) (moved p) (part e) = rw (w_long e, again e) in
-    subst (Beside (up p) (derangements (n s)) (join (n s) s.args.key (take (left_of (n s) s.args.key) (z s)))) (sym (c.before.before.put-together2.ensures ∙ whole ∙ ap (λ k. join (n s) k (part e)) key))
-    ((here s).seam (part e) (can p) s.pre.1.1 (subst (λ k. Edge (not (up p)) (derangements (left_of (n s) k)) (part e)) key (edge e)))
+    subst (Beside (up p) (derangements (n s)) (join (n s) s.args.key (take (left_of (n s) s.args.key) (z s)))) (sym (c.put_together-2.ensures ∙ whole ∙ ap (λ k. join (n s) k (part e)) key))
+    ((here s).seam (part e) (can p) s.requires.edge (subst (λ k. Edge (not (up p)) (derangements (left_of (n s) k)) (part e)) key (edge e)))
 
 pub turn_spec : {M : Type 1} → statement M
 turn_spec =
     tie.close
     (tie.spec
     (λ c κs. search rules)
-    (λ c κs. let s = c.before.before.before.before in (s.requires.0, s.requires.1.0))
+    (λ c κs. let s = c.before.before.before.before in record { in_bounds = s.requires.in_bounds; keyed = s.requires.keyed })
     (λ c. search rules)
     returns
-    (λ c κs. let s = c.before.before.before in omega (arith, s.requires.0, s.requires.1.0))
+    (λ c κs. let s = c.before.before.before in omega (arith, s.requires.in_bounds, s.requires.keyed))
     (λ c κs. search rules)
     (λ c. omega (arith, small c))
     (λ c. sym (front c.before))
-    (λ c κs. let p = c.before in (omega (arith, front p, small p, (start p).requires.0), λ one. (new p).2 (sym (front p) ∙ one)))
-    (λ c κs. let e = c.before.before.before in (omega (arith, w_long e, (start (place e)).pre.0), keyed e))
-    (λ c. let e = c.before.before.before.before.before.before in c.before.before.put-together2.auto.1.0 ∙ w_long e)
+    (λ c κs. let p = c.before in record { object_len_bound = omega (arith, front p, small p, (start p).requires.in_bounds); fact = λ one. (new p).2 (sym (front p) ∙ one) })
+    (λ c κs. let e = c.before.before.before in record { in_bounds = omega (arith, w_long e, (start (place e)).requires.in_bounds); keyed = keyed e })
+    (λ c. let e = c.before.before.before.before.before.before in c.put_together-2.auto.object ∙ w_long e)
     returns-2)

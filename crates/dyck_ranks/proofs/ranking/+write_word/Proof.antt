@@ -39,7 +39,7 @@ claims t = (inside-size-reads.Asked, inside-size-reads.Learnt, shorter-insides-r
 
 module _ (t : ℕ) where
   -- the rank is known in its parts
-  module _ (c : write-word-lts.After-ways (claims t) (write_word_at t) write-word.Post) where
+  module _ (c : write-word-lts.After-ways-rests (claims t) (write_word_at t) write-word.Post) where
     abbrev start : write-word-lts.Start (claims t) (write_word_at t) write-word.Post
     start = c.before.before.before.before.before
 
@@ -47,10 +47,10 @@ module _ (t : ℕ) where
     bytes = start.args.object.now
 
     abbrev close_at : ℕ
-    close_at = 2 * c.before.before.inside-size.result + 1
+    close_at = 2 * c.inside_size-j.result + 1
 
-    fair : Shared (start.args.n - 1) c.before.before.inside-size.result start.args.rank c.before.shorter-insides.result c.ways.result
-    fair = shared c.before.before.inside-size.ensures.1 c.before.before.inside-size.ensures.2 c.before.shorter-insides.ensures c.ways.ensures
+    fair : Shared (start.args.n - 1) c.inside_size-j.result start.args.rank c.shorter_insides.result c.ways-rests.result
+    fair = shared c.inside_size-j.ensures.1 c.inside_size-j.ensures.2 c.shorter_insides.ensures c.ways-rests.ensures
 
     -- the 0 that closes the inside stands within the slice
     closes : close_at < length bytes
@@ -58,47 +58,50 @@ module _ (t : ℕ) where
 
     -- fewer branches have a number of words that fits, too
     fits : (j : ℕ) → j ≤ start.args.n → catalan_of j < 2 ^ 64
-    fits j h = lt_of_le_of_lt (catalan_mono h) start.pre.1.1.0
+    fits j h = lt_of_le_of_lt (catalan_mono h) start.requires.1.n_bound
 
   -- the inside is written
-  inside : (c : write-word-lts.After-write-word (claims t) (write_word_at t) write-word.Post) → let e = c.before.before in Laid (bytes e) (close_at e) c.write-word.new.1.1.0
-  inside c = let e = c.before.before in laid (bytes e) c.write-word.new.1.1.0 (close_at e) (omega arith) (closes e) c.write-word.auto.1.1.0
+  inside : (c : write-word-lts.After-write_word (claims t) (write_word_at t) write-word.Post) → let e = c.before.before in Laid (bytes e) (close_at e) c.write_word.new.object
+  inside c = let e = c.before.before in laid (bytes e) c.write_word.new.object (close_at e) (omega arith) (closes e) c.write_word.auto.object
 
-  returns : write-word-lts.Need-returns (claims t) (write_word_at t) write-word.Post
+  returns : write-word-lts.Need-returns-then-n-eq0 (claims t) (write_word_at t) write-word.Post
   returns c =
-      let s = c.before.before in let zeroth : s.args.rank ≡ 0 = omega (arith, ap catalan_of c.if1.true, catalan_zero) in
-      subst (At (dyck_words s.args.n) s.args.object.now) (sym zeroth) (empty_at c.if1.true s.requires.1.0)
+      let s = c.before.before in let zeroth : s.args.rank ≡ 0 = omega (arith, ap catalan_of c.if-n-eq0.true, catalan_zero) in
+      subst (At (dyck_words s.args.n) s.args.object.now) (sym zeroth) (empty_at c.if-n-eq0.true s.requires.1.object_len)
 
-  inside-size-requires : write-word-lts.Need-inside-size-requires (claims t) (write_word_at t) write-word.Post
+  inside-size-requires : write-word-lts.Need-inside_size-j-requires (claims t) (write_word_at t) write-word.Post
   inside-size-requires c κs =
       let s = c.before.before in let whole : suc (s.args.n - 1) ≡ s.args.n = omega arith in
-      (rw whole s.requires.1.1.0, rw whole s.requires.1.1.1)
+      (rw whole s.requires.1.n_bound, rw whole s.requires.1.rank_bound)
 
-  shorter-insides-requires : write-word-lts.Need-shorter-insides-requires (claims t) (write_word_at t) write-word.Post
-  shorter-insides-requires c κs = (omega arith, lt_of_le_of_lt (catalan_mono (omega arith)) c.before.before.before.requires.1.1.0)
+  shorter-insides-requires : write-word-lts.Need-shorter_insides-requires (claims t) (write_word_at t) write-word.Post
+  shorter-insides-requires c κs = (omega arith, lt_of_le_of_lt (catalan_mono (omega arith)) c.requires.1.n_bound)
 
-  write-word-requires : write-word-lts.Need-write-word-requires (claims t) (write_word_at t) write-word.Post
+  write-word-requires : write-word-lts.Need-write_word-requires (claims t) (write_word_at t) write-word.Post
   write-word-requires c κs = let e = c.before in (omega arith, (omega (arith, inside-length (bytes e) (close_at e) (closes e)), (fits e _ (omega arith), (fair e).inside)))
 
-  write-word-requires-2 : write-word-lts.Need-write-word-requires-2 (claims t) (write_word_at t) write-word.Post
+  write-word-requires-2 : write-word-lts.Need-write_word-requires-2 (claims t) (write_word_at t) write-word.Post
   write-word-requires-2 c κs = let long = (inside c.before.before.before).rest_lent in (omega arith, (omega (arith, long), let e = c.before.before.before.before.before in (fits e _ (omega arith), (fair e).rest)))
 
-  returns-2 : write-word-lts.Need-returns-2 (claims t) (write_word_at t) write-word.Post
+  returns-2 : write-word-lts.Need-returns (claims t) (write_word_at t) write-word.Post
   returns-2 c =
-      let outer = c.before.before.write-word2 in
+      let outer = c.write_word-2 in
       let w = c.before.before.before.before.before.before in
       let e = w.before.before in
-      unranked (start e).args.n e.before.before.before.if1.false e.before.before.inside-size.ensures.0 (fair e) w.write-word.ensures outer.ensures ((inside w).whole outer.new.1.1.0)
+      unranked (start e).args.n e.if-n-eq0.false e.inside_size-j.ensures.0 (fair e) w.write_word.ensures outer.ensures ((inside w).whole outer.new.object)
 
 pub +write_word_spec : {M : Type 1} → statement M
-+write_word_spec = close μ-write-word λ t. write-word-lts.spec (claims t) (write_word_at t) write-word.Post
++write_word_spec = close μ-write-word λ t. write-word-lts.spec
+    (claims t)
+    (write_word_at t)
+    write-word.Post
     (returns t)
     (λ c. omega arith)
     (inside-size-requires t)
     (λ c. omega arith)
     (shorter-insides-requires t)
     (λ c. omega arith)
-    (λ c κs. lt_of_le_of_lt (catalan_mono (omega arith)) c.before.before.before.before.requires.1.1.0)
+    (λ c κs. lt_of_le_of_lt (catalan_mono (omega arith)) c.requires.1.n_bound)
     (λ c. (fair t c).rests)
     (λ c. (fair t c).rests)
     (λ c. omega arith)
@@ -114,5 +117,5 @@ pub +write_word_spec : {M : Type 1} → statement M
     (λ c. let w = c.before.before in omega (arith, (inside t w).long, closes t w.before.before))
     (λ c. omega arith)
     (write-word-requires-2 t)
-    (λ c. let outer = c.before.before.write-word2 in (inside t c.before.before.before.before.before.before).same-long outer.new.1.1.0 outer.auto.1.1.0)
+    (λ c. let outer = c.write_word-2 in (inside t c.before.before.before.before.before.before).same-long outer.new.object outer.auto.object)
     (returns-2 t)

@@ -9,14 +9,14 @@ use Rattle.dyck_ranks.proofs.Ranks.{shorter-zero, shorter-suc, shorter-le}
 use Rattle.dyck_ranks.proofs.ranking.shorter_insides.Statement.{statement}
 use Rattle.dyck_ranks.proofs.ranking.shorter_insides.Tie as tie
 
-abbrev invariant-loop : tie.invariant-loop
+abbrev invariant-loop : tie.invariant-loop-i
 invariant-loop n j sum₀ i₀ sum i = (i ≤ j) × (sum ≡ shorter n i)
 
-abbrev decreases-loop : tie.decreases-loop
+abbrev decreases-loop : tie.decreases-loop-i
 decreases-loop n j sum₀ i₀ sum i = j - i
 
-add-sum : tie.Need-overflow-add-sum invariant-loop decreases-loop
-add-sum c = omega (arith, shorter-suc c.before.before.before.args.n c.before.before.loop.i, shorter-le c.before.before.before.args.n (suc c.before.before.loop.i) (omega arith))
+add-sum : tie.Need-overflow_add-sum invariant-loop decreases-loop
+add-sum c = omega (arith, shorter-suc c.args.n c.loop-i.i, shorter-le c.args.n (suc c.loop-i.i) (omega arith))
 
 pub shorter_insides_spec : {M : Type 1} → statement M
 shorter_insides_spec =
@@ -29,5 +29,5 @@ shorter_insides_spec =
     add-sum
     (λ c. omega arith)
     (λ c. omega arith)
-    (λ c. (omega arith, rw add-one (omega (arith, shorter-suc c.before.before.before.args.n c.before.before.loop.i))))
-    (λ c. let e : c.before.loop.i ≡ c.before.before.args.j = omega arith in rw e at c.before.loop.invariant.1))
+    (λ c. (omega arith, rw add-one (omega (arith, shorter-suc c.args.n c.loop-i.i))))
+    (λ c. let e : c.loop-i.i ≡ c.args.j = omega arith in rw e at c.loop-i.invariant.1))

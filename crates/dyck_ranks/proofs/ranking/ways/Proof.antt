@@ -7,4 +7,6 @@ use Rattle.dyck_ranks.proofs.ranking.ways.Statement.{statement}
 use Rattle.dyck_ranks.proofs.ranking.ways.Tie as tie
 
 pub ways_spec : {M : Type 1} → statement M
-ways_spec = tie.close (tie.spec (λ c κs. search rules) (λ c. c.catalan-that-fits.ensures ∙ if_small c.before.requires))
+ways_spec = tie.close (tie.spec
+    (λ c κs. search rules)
+    (λ c. c.catalan_that_fits.ensures ∙ if_small c.requires))

@@ -43,18 +43,18 @@ row_calls t = (branch_below t, branch.Post, row_below t, row.Post)
 abbrev branch_calls : ℕ → branch-lts.Claims
 branch_calls t = (row_below t, row.Post)
 
-abbrev branch_start : (t : ℕ) → branch-lts.After-end (branch_calls t) (branch_at t) branch.Post → branch-lts.Start (branch_calls t) (branch_at t) branch.Post
+abbrev branch_start : (t : ℕ) → branch-lts.In-To (branch_calls t) (branch_at t) branch.Post → branch-lts.Start (branch_calls t) (branch_at t) branch.Post
 branch_start t c = c.before.before.before.before
 
 -- in a branch, how far its row came
-row_read : (t : ℕ) (c : branch-lts.After-end (branch_calls t) (branch_at t) branch.Post) → let a = (branch_start t c).args in RowRead a.object.now (a.at + 1) (To c.end.given.0.0)
-row_read t c = subst (RowRead _ _) c.end.given.1 c.before.before.row.ensures
+row_read : (t : ℕ) (c : branch-lts.In-To (branch_calls t) (branch_at t) branch.Post) → let a = (branch_start t c).args in RowRead a.object.now (a.at + 1) (To c.in-To.end)
+row_read t c = subst (RowRead _ _) c.in-To.is c.row.ensures
 
 -- in a row, how far its branch came
-branch_read : (t : ℕ) (c : row-lts.After-next (row_calls t) (row_at t) row.Post) → let a = c.before.before.before.before.before.before.before.args in BranchRead a.object.now a.at (To c.next.given.0.0)
-branch_read t c = subst (BranchRead _ _) c.next.given.1 c.before.before.branch.ensures
+branch_read : (t : ℕ) (c : row-lts.In_To-next (row_calls t) (row_at t) row.Post) → let a = c.args in BranchRead a.object.now a.at (To c.in_To-next.next)
+branch_read t c = subst (BranchRead _ _) c.in_To-next.is c.branch-next.ensures
 
-branch_returns : (t : ℕ) → branch-lts.Need-returns (branch_calls t) (branch_at t) branch.Post
+branch_returns : (t : ℕ) → branch-lts.Need-returns-in_default (branch_calls t) (branch_at t) branch.Post
 branch_returns t c =
     let s = c.before.before.before.before in
     branch_fails s.args.object.now s.args.at s.requires.1 (subst (RowRead _ _) c.enum_told.given.1 c.before.before.row.ensures)
@@ -64,17 +64,20 @@ pub +branch_row_spec : {M : Type 1} → statement M
     close
     μ-branch
     μ-row
-    (λ t. branch-lts.spec (branch_calls t) (branch_at t) branch.Post
+    (λ t. branch-lts.spec
+    (branch_calls t)
+    (branch_at t)
+    branch.Post
     (λ c. omega arith)
     (λ c κs. (omega arith, omega arith))
     (λ c. search rules)
     (λ c. search rules)
     (branch_returns t)
-    (λ c. let e = c.before.before in branch_open _ _ (branch_start t e).requires.1 (row_read t e).0 (omega arith))
+    (λ c. let e = c.before in branch_open _ _ (branch_start t e).requires.1 (row_read t e).0 (omega arith))
     (λ c. omega arith)
-    (λ c. let e = c.before.before.before.before in branch_stuck _ _ (branch_start t e).requires.1 (row_read t e) (omega arith) c.if2.true)
+    (λ c. let e = c.before.before.before in branch_stuck _ _ (branch_start t e).requires.1 (row_read t e) (omega arith) c.if-object-end-ne0.true)
     (λ c. omega arith)
-    (λ c. let e = c.before.before.before.before in branch_closes _ _ (branch_start t e).requires.1 (row_read t e).0 (omega arith) c.if2.false))
+    (λ c. let e = c.before.before.before in branch_closes _ _ (branch_start t e).requires.1 (row_read t e).0 (omega arith) c.if-object-end-ne0.false))
     λ t. row-lts.spec (row_calls t) (row_at t) row.Post
     (λ c. let start = c.before.before in row_stays start.requires.1 (λ e. omega (arith, get_or-eq_default start.args.object.now 0 {n = start.args.at} (omega arith))))
     (λ c. omega arith)

@@ -25,5 +25,5 @@ row_here_spec =
     (λ c. search rules)
     (λ c. search rules)
     (λ c. search rules)
-    (λ c. omega (arith, rest_low c.before.before.before.before.before))
-    (λ c. record { low = omega (arith, rest_low c.before.before.before.before.before); none = λ other. omega arith; some = λ one inside. refl }))
+    (λ c. omega (arith, rest_low c.before.before.before.before.before.before))
+    (λ c. record { low = omega (arith, rest_low c.before.before.before.before.before.before); none = λ other. omega arith; some = λ one inside. refl }))

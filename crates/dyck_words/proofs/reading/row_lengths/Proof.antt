@@ -10,16 +10,16 @@ use Rattle.dyck_words.proofs.RowTable.{told_none, told_more, told_all}
 use Rattle.dyck_words.proofs.reading.row_lengths.Statement.{statement}
 use Rattle.dyck_words.proofs.reading.row_lengths.Tie as tie
 
-abbrev invariant-loop : tie.invariant-loop
+abbrev invariant-loop : tie.invariant-loop-d
 invariant-loop object rows₀ d₀ rows d = (d ≤ longest_object) × (d ≤ length object) × (length rows ≡ longest_object + 1) × Told (drop (length object - d) object) d rows
 
-abbrev decreases-loop : tie.decreases-loop
+abbrev decreases-loop : tie.decreases-loop-d
 decreases-loop object rows₀ d₀ rows d = longest_object - d
 
-loop-again : tie.Need-loop-preserved invariant-loop decreases-loop
+loop-again : tie.Need-loop-d-preserved invariant-loop decreases-loop
 loop-again c =
-    let here = c.before.before.before.before.before.loop in
-    (omega arith, omega arith, length-set here.rows (here.d + 1) c.row_here.result ∙ here.invariant.2, told_more c.before.before.before.before.before.before.before.args.object.now here.d (omega arith) here.invariant.3 c.row_here.ensures (omega arith))
+    let here = c.loop-d in
+    (omega arith, omega arith, length-set here.rows (here.d + 1) c.row_here.result ∙ here.invariant.2, told_more c.args.object.now here.d (omega arith) here.invariant.3 c.row_here.ensures (omega arith))
 
 pub row_lengths_spec : {M : Type 1} → statement M
 row_lengths_spec =
@@ -27,15 +27,15 @@ row_lengths_spec =
     (tie.spec
     invariant-loop
     decreases-loop
-    (λ c. (omega arith, omega arith, refl, told_none c.before.args.object.now))
-    (λ c. told_all c.before.before.before.before.args.object.now c.before.before.loop.d (omega arith) c.before.before.loop.invariant.3)
+    (λ c. (omega arith, omega arith, refl, told_none c.args.object.now))
+    (λ c. told_all c.args.object.now c.loop-d.d (omega arith) c.loop-d.invariant.3)
     (λ c. omega arith)
     (λ c. omega arith)
     (λ c. omega arith)
-    (λ c κs. (omega arith, c.before.before.before.before.loop.invariant.3.low))
+    (λ c κs. (omega arith, c.loop-d.invariant.3.low))
     (λ c. omega arith)
     (λ c. omega arith)
     (λ c. omega arith)
     (λ c. omega arith)
     loop-again
-    (λ c. told_all c.before.before.before.args.object.now c.before.loop.d (omega arith) c.before.loop.invariant.3))
+    (λ c. told_all c.args.object.now c.loop-d.d (omega arith) c.loop-d.invariant.3))

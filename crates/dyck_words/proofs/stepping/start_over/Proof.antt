@@ -17,39 +17,39 @@ use Rattle.dyck_words.proofs.Places.{bit, alternates, nested}
 use Rattle.dyck_words.proofs.stepping.start_over.Statement.{statement}
 use Rattle.dyck_words.proofs.stepping.start_over.Tie as tie
 
-abbrev invariant-loop : tie.invariant-loop
+abbrev invariant-loop : tie.invariant-loop-i
 invariant-loop up object₀ i₀ object i = (i ≤ length object₀) × (object ≡ filled bit i object₀)
 
-abbrev decreases-loop : tie.decreases-loop
+abbrev decreases-loop : tie.decreases-loop-i
 decreases-loop up object₀ i₀ object i = length object₀ - i
 
-kept : (c : tie.At-loop invariant-loop decreases-loop) → length c.loop.object ≡ length c.before.before.before.args.object.now
-kept c = ap length c.loop.invariant.1 ∙ length-filled bit c.loop.i c.before.before.before.args.object.now c.loop.invariant.0
+kept : (c : tie.At-loop-i invariant-loop decreases-loop) → length c.loop-i.object ≡ length c.args.object.now
+kept c = ap length c.loop-i.invariant.1 ∙ length-filled bit c.loop-i.i c.args.object.now c.loop-i.invariant.0
 
-returns : tie.Need-returns invariant-loop decreases-loop
+returns : tie.Need-returns-then-not-up invariant-loop decreases-loop
 returns c n long =
-    let written = c.before.before.before.before.before.before in let ones = written.fill-with in
-    let a = written.before.before.before.before.args in let x = a.object.now in
-    let zeros = c.before.before.fill-with2 in
+    let written = c.before.before.before.before.before.before in let ones = written.fill_with in
+    let a = written.args in let x = a.object.now in
+    let zeros = c.fill_with-then-not-up in
     let h = length x / 2 in
     let front : length (take h x) ≡ h = length-take-le h x (omega arith) in
     let half : h ≡ n = omega arith in
     let back : length x - h ≡ n = omega arith in
-    both_written h x ones.new.0 (omega arith) (ones.auto.0 ∙ front) zeros.new.0
-    ∙ ap₂ (λ a b. a ++ b) (ones.ensures ∙ ap (λ k. replicate k 1) (front ∙ half)) (zeros.ensures ∙ ap (λ k. replicate k 0) (rest_lent h x ones.new.0 (omega arith) (ones.auto.0 ∙ front) ∙ back))
-    ∙ nested n ∙ ap (λ up. word (start_tree up n)) (sym (not-true a.up written.before.before.if1.true))
+    both_written h x ones.new.part (omega arith) (ones.auto.part ∙ front) zeros.new.part
+    ∙ ap₂ (λ a b. a ++ b) (ones.ensures ∙ ap (λ k. replicate k 1) (front ∙ half)) (zeros.ensures ∙ ap (λ k. replicate k 0) (rest_lent h x ones.new.part (omega arith) (ones.auto.part ∙ front) ∙ back))
+    ∙ nested n ∙ ap (λ up. word (start_tree up n)) (sym (not-true a.up written.if-not-up.true-raw))
 
-loop-again : tie.Need-loop-preserved invariant-loop decreases-loop
+loop-again : tie.Need-loop-i-preserved invariant-loop decreases-loop
 loop-again c =
-    let here = c.before.loop in
-    (omega (arith, kept c.before), ap (λ (l : List ℕ). set l here.i (bit here.i)) here.invariant.1 ∙ fill_more bit here.i c.before.before.before.before.args.object.now (omega (arith, kept c.before)))
+    let here = c.loop-i in
+    (omega (arith, kept c.before), ap (λ (l : List ℕ). set l here.i (bit here.i)) here.invariant.1 ∙ fill_more bit here.i c.args.object.now (omega (arith, kept c.before)))
 
-returns-2 : tie.Need-returns-2 invariant-loop decreases-loop
+returns-2 : tie.Need-returns invariant-loop decreases-loop
 returns-2 c n long =
-    let a = c.before.before.before.before.args in c.before.loop.invariant.1
-    ∙ fill_all bit c.before.loop.i a.object.now (omega (arith, kept c.before))
+    let a = c.args in c.loop-i.invariant.1
+    ∙ fill_all bit c.loop-i.i a.object.now (omega (arith, kept c.before))
     ∙ ap (λ k. map bit (range 0 k)) long
-    ∙ alternates n ∙ ap (λ up. word (start_tree up n)) (sym (not-false a.up c.before.before.if1.false))
+    ∙ alternates n ∙ ap (λ up. word (start_tree up n)) (sym (not-false a.up c.if-not-up.false-raw))
 
 pub start_over_spec : {M : Type 1} → statement M
 start_over_spec =
@@ -58,7 +58,7 @@ start_over_spec =
     invariant-loop
     decreases-loop
     (λ c. search rules)
-    (λ c. let x = c.before.before.before.args.object.now in sym (length-take-le (length x / 2) x (omega arith)))
+    (λ c. let x = c.args.object.now in sym (length-take-le (length x / 2) x (omega arith)))
     (λ c κs. search rules)
     (λ c. search rules)
     (λ c. search rules)
@@ -66,7 +66,7 @@ start_over_spec =
     (λ c κs. search rules)
     (λ c. search rules)
     returns
-    (λ c. (omega arith, fill_none bit c.before.before.args.object.now))
+    (λ c. (omega arith, fill_none bit c.args.object.now))
     (λ c. omega (arith, kept c.before))
     (λ c. omega arith)
     (λ c. omega (arith, kept c.before))

@@ -5,13 +5,17 @@ use borrow.Author.Rules.{rules}
 use Rattle.families.proofs.codes.written.Statement.{statement}
 use Rattle.families.proofs.codes.written.Tie as tie
 
-returns : tie.Need-returns
+returns : tie.Need-returns-in-Done
 unfolding code_of
 returns c = search rules
 
-returns-2 : tie.Need-returns-2
+returns-2 : tie.Need-returns-in-Refused
 unfolding code_of
 returns-2 c = search rules
 
 pub written_spec : {M : Type 1} → statement M
-written_spec = tie.close (tie.spec (λ c. search rules) (λ c. search rules) returns returns-2)
+written_spec = tie.close (tie.spec
+    (λ c. search rules)
+    (λ c. search rules)
+    returns
+    returns-2)

@@ -15,38 +15,38 @@ is_object_spec =
     (λ c. search rules)
     (λ c κs. search rules)
     (λ c κs.
-    let s = c.before.before.before in let t = handed 2 _ _ c.match.keys2 s.requires in
+    let s = c.before.before.before in let t = handed 2 _ _ c.in-2.is s.requires in
     rw (← get_or-map (λ x. x.now) s.args.t2 0 _) (letters_fit t))
     (λ c κs.
-    let t = handed 3 _ _ c.match.keys3 c.before.before.before.requires in
+    let t = handed 3 _ _ c.in-3.is c.requires in
     n_within _ _ _ t.bounds)
     (λ c κs. search rules)
     (λ c κs. search rules)
     (λ c κs.
-    let t = handed 6 _ _ c.match.keys6 c.before.before.before.requires in
+    let t = handed 6 _ _ c.in-6.is c.requires in
     n_within _ _ _ t.bounds)
     (λ c κs.
-    let t = handed 7 _ _ c.match.keys7 c.before.before.before.requires in
+    let t = handed 7 _ _ c.in-7.is c.requires in
     n_within _ _ _ t.bounds)
     (λ c.
-    let t = handed 1 _ _ c.before.match.keys1 c.before.before.before.before.requires in
-    c.is-object.ensures ∙ sym (t.objects _))
+    let t = handed 1 _ _ c.in-1.is c.requires in
+    c.is_object.ensures ∙ sym (t.objects _))
     (λ c.
-    let s = c.before.before.before.before in let t = handed 2 _ _ c.before.match.keys2 s.requires in
-    (rw (← get_or-map (λ x. x.now) s.args.t2 0 _) at c.is-object2.ensures) ∙ sym (t.objects _))
+    let s = c.before.before.before.before in let t = handed 2 _ _ c.in-2.is s.requires in
+    (rw (← get_or-map (λ x. x.now) s.args.t2 0 _) at c.is_object-in-2.ensures) ∙ sym (t.objects _))
     (λ c.
-    let t = handed 3 _ _ c.before.match.keys3 c.before.before.before.before.requires in
-    c.is-object3.ensures ∙ sym (t.objects _))
+    let t = handed 3 _ _ c.in-3.is c.requires in
+    c.is_object-in-3.ensures ∙ sym (t.objects _))
     (λ c.
-    let t = handed 4 _ _ c.before.match.keys4 c.before.before.before.before.requires in
-    c.is-object4.ensures ∙ sym (t.objects _))
+    let t = handed 4 _ _ c.in-4.is c.requires in
+    c.is_object-in-4.ensures ∙ sym (t.objects _))
     (λ c.
-    let t = handed 5 _ _ c.before.match.keys5 c.before.before.before.before.requires in
-    c.is-object5.ensures ∙ sym (t.objects _))
+    let t = handed 5 _ _ c.in-5.is c.requires in
+    c.is_object-in-5.ensures ∙ sym (t.objects _))
     (λ c.
-    let t = handed 6 _ _ c.before.match.keys6 c.before.before.before.before.requires in
-    c.is-object6.ensures ∙ sym (t.objects _))
+    let t = handed 6 _ _ c.in-6.is c.requires in
+    c.is_object-in-6.ensures ∙ sym (t.objects _))
     (λ c.
-    let t = handed 7 _ _ c.before.match.keys7 c.before.before.before.before.requires in
-    c.is-object7.ensures ∙ sym (t.objects _))
-    (λ c. absurd (has_arm _ _ c.before.before.before.requires c.match.rest)))
+    let t = handed 7 _ _ c.in-7.is c.requires in
+    c.is_object-in-7.ensures ∙ sym (t.objects _))
+    (λ c. absurd (has_arm _ _ c.requires c.in_default.in_default-own.rest)))

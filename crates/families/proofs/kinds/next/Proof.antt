@@ -14,48 +14,44 @@ next_spec =
     tie.close
     (tie.spec
     (λ c κs.
-    let s = c.before.before.before in let t = object_k 1 _ _ _ c.before.match.keys1 s.requires refl in
+    let s = c.before.before.before in let t = object_k 1 _ _ _ c.in-1.is s.requires refl in
     (n_within _ _ _ t.bounds, sym (t.objects _) ∙ s.requires))
     (λ c κs. search rules)
     (λ c κs. search rules)
     (λ c κs.
-    let s = c.before.before.before in let t = object_n 4 _ _ _ c.before.match.keys4 s.requires refl in
-    (n_within _ _ _ t.bounds, sym (t.objects _) ∙ s.requires))
+    let s = c.before.before.before in let t = object_n 4 _ _ _ c.in-4.is s.requires refl in record { object_len_bound = n_within _ _ _ t.bounds; object_value = sym (t.objects _) ∙ s.requires })
     (λ c κs.
-    let s = c.before.before.before in let t = object_k 5 _ _ _ c.before.match.keys5 s.requires refl in
-    ((n_within _ _ _ t.bounds, floor_positive _ _ (object-allowed _ _ _ s.requires) c.before.match.keys5), sym (t.objects _) ∙ s.requires))
+    let s = c.before.before.before in let t = object_k 5 _ _ _ c.in-5.is s.requires refl in record { n_le_places = (n_within _ _ _ t.bounds, floor_positive _ _ (object-allowed _ _ _ s.requires) c.in-5.is); object_value = sym (t.objects _) ∙ s.requires })
     (λ c κs.
-    let s = c.before.before.before in let t = object 6 _ _ _ c.before.match.keys6 s.requires in
-    (n_within _ _ _ t.bounds, sym (t.objects _) ∙ s.requires))
+    let s = c.before.before.before in let t = object 6 _ _ _ c.in-6.is s.requires in record { n_le_branches = n_within _ _ _ t.bounds; object_value = sym (t.objects _) ∙ s.requires })
     (λ c κs.
-    let s = c.before.before.before in let t = object_n 7 _ _ _ c.before.match.keys7 s.requires refl in
-    (n_within _ _ _ t.bounds, sym (t.objects _) ∙ s.requires))
+    let s = c.before.before.before in let t = object_n 7 _ _ _ c.in-7.is s.requires refl in record { object_len_bound = n_within _ _ _ t.bounds; object_value = sym (t.objects _) ∙ s.requires })
     (λ c. search rules)
     (λ c.
-    let m = c.before.before.before.before in let t = object_k 1 _ _ _ m.match.keys1 m.before.before.requires refl in
-    rw (t.orders, t.lists) c.before.before.next.ensures)
+    let m = c.before.before.before.before in let t = object_k 1 _ _ _ m.in-1.is m.requires refl in
+    rw (t.orders, t.lists) c.next.ensures)
     (λ c. search rules)
     (λ c.
-    let m = c.before.before.before.before in let t = object 2 _ _ _ m.match.keys2 m.before.before.requires in
-    rw (t.orders, t.lists) (c.before.before.next2.ensures _ (sym (t.objects _) ∙ m.before.before.requires)))
+    let m = c.before.before.before.before in let t = object 2 _ _ _ m.in-2.is m.requires in
+    rw (t.orders, t.lists) (c.next-in-2.ensures _ (sym (t.objects _) ∙ m.requires)))
     (λ c. search rules)
     (λ c.
-    let m = c.before.before.before.before in let t = object_n 3 _ _ _ m.match.keys3 m.before.before.requires refl in
-    rw (t.orders, t.lists) (c.before.before.next3.ensures (ones (length m.before.before.args.object.now)) (sym (t.objects _) ∙ m.before.before.requires)))
+    let m = c.before.before.before.before in let t = object_n 3 _ _ _ m.in-3.is m.requires refl in
+    rw (t.orders, t.lists) (c.next-in-3.ensures (ones (length m.args.object.now)) (sym (t.objects _) ∙ m.requires)))
     (λ c. search rules)
     (λ c.
-    let m = c.before.before.before.before in let t = object_n 4 _ _ _ m.match.keys4 m.before.before.requires refl in
-    rw (t.orders, t.lists) c.before.before.next4.ensures)
+    let m = c.before.before.before.before in let t = object_n 4 _ _ _ m.in-4.is m.requires refl in
+    rw (t.orders, t.lists) c.next-in-4.ensures)
     (λ c. search rules)
     (λ c.
-    let m = c.before.before.before.before in let t = object_k 5 _ _ _ m.match.keys5 m.before.before.requires refl in
-    rw (t.orders, t.lists) c.before.before.next5.ensures)
+    let m = c.before.before.before.before in let t = object_k 5 _ _ _ m.in-5.is m.requires refl in
+    rw (t.orders, t.lists) c.next-in-5.ensures)
     (λ c. search rules)
     (λ c.
-    let m = c.before.before.before.before in let t = object 6 _ _ _ m.match.keys6 m.before.before.requires in
-    rw (t.orders, t.lists) c.before.before.next6.ensures)
+    let m = c.before.before.before.before in let t = object 6 _ _ _ m.in-6.is m.requires in
+    rw (t.orders, t.lists) c.next-in-6.ensures)
     (λ c. search rules)
     (λ c.
-    let m = c.before.before.before.before in let t = object_n 7 _ _ _ m.match.keys7 m.before.before.requires refl in
-    rw (t.orders, t.lists) c.before.before.next7.ensures)
-    (λ c. absurd (has_arm _ _ (object-allowed _ _ _ c.before.before.requires) c.match.rest)))
+    let m = c.before.before.before.before in let t = object_n 7 _ _ _ m.in-7.is m.requires refl in
+    rw (t.orders, t.lists) c.next-in-7.ensures)
+    (λ c. absurd (has_arm _ _ (object-allowed _ _ _ c.requires) c.in_default.in_default-own.rest)))

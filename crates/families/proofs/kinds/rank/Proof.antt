@@ -11,59 +11,59 @@ use Rattle.families.proofs.kinds.rank.Tie as tie
 
 -- kind 1
 
-returns : tie.Need-returns
+returns : tie.Need-returns-in-1
 unfolding rank_of
 returns c =
-    let t = object_k 1 _ _ _ c.before.match.keys1 c.before.before.before.before.requires.0 refl in
+    let t = object_k 1 _ _ _ c.in-1.is c.requires.object_value refl in
     rw (t.orders, t.lists) c.rank.ensures
 
 -- kind 2
 
-returns-2 : tie.Need-returns-2
+returns-2 : tie.Need-returns-in-2
 unfolding rank_of
 returns-2 c =
-    let s = c.before.before.before.before in let t = object 2 _ _ _ c.before.match.keys2 s.requires.0 in
-    rw (t.orders, t.lists) (rw (← get_or-map (λ x. x.now) s.args.t2 0 _) at c.rank2.ensures)
+    let s = c.before.before.before.before in let t = object 2 _ _ _ c.in-2.is s.requires.object_value in
+    rw (t.orders, t.lists) (rw (← get_or-map (λ x. x.now) s.args.t2 0 _) at c.rank-in-2.ensures)
 
 -- kind 3
 
-returns-3 : tie.Need-returns-3
+returns-3 : tie.Need-returns-in-3
 unfolding rank_of
 returns-3 c =
-    let t = object_n 3 _ _ _ c.before.match.keys3 c.before.before.before.before.requires.0 refl in
-    rw (t.orders, t.lists) c.rank3.ensures
+    let t = object_n 3 _ _ _ c.in-3.is c.requires.object_value refl in
+    rw (t.orders, t.lists) c.rank-in-3.ensures
 
 -- kind 4
 
-returns-4 : tie.Need-returns-4
+returns-4 : tie.Need-returns-in-4
 unfolding rank_of
 returns-4 c =
-    let t = object_n 4 _ _ _ c.before.match.keys4 c.before.before.before.before.requires.0 refl in
-    rw (t.orders, t.lists) c.rank4.ensures
+    let t = object_n 4 _ _ _ c.in-4.is c.requires.object_value refl in
+    rw (t.orders, t.lists) c.rank-in-4.ensures
 
 -- kind 5
 
-returns-5 : tie.Need-returns-5
+returns-5 : tie.Need-returns-in-5
 unfolding rank_of
 returns-5 c =
-    let t = object_k 5 _ _ _ c.before.match.keys5 c.before.before.before.before.requires.0 refl in
-    rw (t.orders, t.lists) c.rank5.ensures
+    let t = object_k 5 _ _ _ c.in-5.is c.requires.object_value refl in
+    rw (t.orders, t.lists) c.rank-in-5.ensures
 
 -- kind 6
 
-returns-6 : tie.Need-returns-6
+returns-6 : tie.Need-returns-in-6
 unfolding rank_of
 returns-6 c =
-    let t = object 6 _ _ _ c.before.match.keys6 c.before.before.before.before.requires.0 in
-    rw (t.orders, t.lists) c.rank6.ensures
+    let t = object 6 _ _ _ c.in-6.is c.requires.object_value in
+    rw (t.orders, t.lists) c.rank-in-6.ensures
 
 -- kind 7
 
-returns-7 : tie.Need-returns-7
+returns-7 : tie.Need-returns-in-7
 unfolding rank_of
 returns-7 c =
-    let t = object_n 7 _ _ _ c.before.match.keys7 c.before.before.before.before.requires.0 refl in
-    rw (t.orders, t.lists) c.rank7.ensures
+    let t = object_n 7 _ _ _ c.in-7.is c.requires.object_value refl in
+    rw (t.orders, t.lists) c.rank-in-7.ensures
 
 pub rank_spec : {M : Type 1} → statement M
 rank_spec =
@@ -71,26 +71,20 @@ rank_spec =
     (tie.spec
     (λ c. search rules)
     (λ c κs.
-    let s = c.before.before.before in let t = object_k 1 _ _ _ c.match.keys1 s.requires.0 refl in
-    (n_within _ _ _ t.bounds, (sym (t.objects _) ∙ s.requires.0, rw t.counted at s.requires.1)))
+    let s = c.before.before.before in let t = object_k 1 _ _ _ c.in-1.is s.requires.object_value refl in record { n_le_places = n_within _ _ _ t.bounds; object_value = sym (t.objects _) ∙ s.requires.object_value; object_bound = rw t.counted at s.requires.lists_bound })
     (λ c κs.
-    let s = c.before.before.before in let t = object 2 _ _ _ c.match.keys2 s.requires.0 in
-    rw (← get_or-map (λ x. x.now) s.args.t2 0 _) (letters_fit t, (t.short, (sym (t.objects _) ∙ s.requires.0, rw t.counted at s.requires.1))))
+    let s = c.before.before.before in let t = object 2 _ _ _ c.in-2.is s.requires.object_value in
+    rw (← get_or-map (λ x. x.now) s.args.t2 0 _) (letters_fit t, (t.short, (sym (t.objects _) ∙ s.requires.object_value, rw t.counted at s.requires.lists_bound))))
     (λ c κs.
-    let s = c.before.before.before in let t = object_n 3 _ _ _ c.match.keys3 s.requires.0 refl in
-    (n_within _ _ _ t.bounds, (sym (t.objects _) ∙ s.requires.0, rw t.counted at s.requires.1)))
+    let s = c.before.before.before in let t = object_n 3 _ _ _ c.in-3.is s.requires.object_value refl in record { object_len_bound = n_within _ _ _ t.bounds; object_value = sym (t.objects _) ∙ s.requires.object_value; object_bound = rw t.counted at s.requires.lists_bound })
     (λ c κs.
-    let s = c.before.before.before in let t = object_n 4 _ _ _ c.match.keys4 s.requires.0 refl in
-    (n_within _ _ _ t.bounds, (sym (t.objects _) ∙ s.requires.0, rw t.counted at s.requires.1)))
+    let s = c.before.before.before in let t = object_n 4 _ _ _ c.in-4.is s.requires.object_value refl in record { object_len_bound = n_within _ _ _ t.bounds; object_value = sym (t.objects _) ∙ s.requires.object_value; k_bound = rw t.counted at s.requires.lists_bound })
     (λ c κs.
-    let s = c.before.before.before in let t = object_k 5 _ _ _ c.match.keys5 s.requires.0 refl in
-    ((n_within _ _ _ t.bounds, floor_positive _ _ (object-allowed _ _ _ s.requires.0) c.match.keys5), sym (t.objects _) ∙ s.requires.0))
+    let s = c.before.before.before in let t = object_k 5 _ _ _ c.in-5.is s.requires.object_value refl in record { n_le_places = (n_within _ _ _ t.bounds, floor_positive _ _ (object-allowed _ _ _ s.requires.object_value) c.in-5.is); object_value = sym (t.objects _) ∙ s.requires.object_value })
     (λ c κs.
-    let s = c.before.before.before in let t = object 6 _ _ _ c.match.keys6 s.requires.0 in
-    (n_within _ _ _ t.bounds, (sym (t.objects _) ∙ s.requires.0, rw t.counted at s.requires.1)))
+    let s = c.before.before.before in let t = object 6 _ _ _ c.in-6.is s.requires.object_value in record { n_le_branches = n_within _ _ _ t.bounds; object_value = sym (t.objects _) ∙ s.requires.object_value; n_bound = rw t.counted at s.requires.lists_bound })
     (λ c κs.
-    let s = c.before.before.before in let t = object_n 7 _ _ _ c.match.keys7 s.requires.0 refl in
-    (n_within _ _ _ t.bounds, (sym (t.objects _) ∙ s.requires.0, rw t.counted at s.requires.1)))
+    let s = c.before.before.before in let t = object_n 7 _ _ _ c.in-7.is s.requires.object_value refl in record { object_len_bound = n_within _ _ _ t.bounds; object_value = sym (t.objects _) ∙ s.requires.object_value; object_bound = rw t.counted at s.requires.lists_bound })
     returns
     returns-2
     returns-3
@@ -98,4 +92,4 @@ rank_spec =
     returns-5
     returns-6
     returns-7
-    (λ c. absurd (has_arm _ _ (object-allowed _ _ _ c.before.before.before.requires.0) c.match.rest)))
+    (λ c. absurd (has_arm _ _ (object-allowed _ _ _ c.requires.object_value) c.in_default.in_default-own.rest)))

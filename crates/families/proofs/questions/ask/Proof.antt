@@ -8,13 +8,13 @@ use Rattle.families.proofs.Verdicts.{verdict, opened}
 use Rattle.families.proofs.questions.ask.Statement.{statement}
 use Rattle.families.proofs.questions.ask.Tie as tie
 
-returns : tie.Need-returns
+returns : tie.Need-returns-in_default
 unfolding refusal
-returns c = c.closing.ensures ∙ sym (after_pass _ _ (verdict c.before.before.before.opening.ensures c.before.enum_told.given.1))
+returns c = c.closing.ensures ∙ sym (after_pass _ _ (verdict c.opening.ensures c.in_default.is))
 
-returns-2 : tie.Need-returns-2
+returns-2 : tie.Need-returns
 unfolding refusal
-returns-2 c = sym (after_no _ _ (verdict c.before.before.before.opening.ensures c.before.q.given.1))
+returns-2 c = sym (after_no _ _ (verdict c.opening.ensures c.in-No.is))
 
 pub ask_spec : {M : Type 1} → statement M
 ask_spec =
@@ -23,6 +23,6 @@ ask_spec =
     (λ c κs. search rules)
     (λ c. search rules)
     (λ c. search rules)
-    (λ c κs. opened _ _ _ (verdict c.before.before.opening.ensures c.enum_told.given.1))
+    (λ c κs. opened _ _ _ (verdict c.opening.ensures c.in_default.is))
     returns
     returns-2)

@@ -12,6 +12,6 @@ buffer_fits_spec =
     tie.close
     (tie.spec
     (λ c κs. search rules)
-    (λ c. sym (not-put _ 6 _ (is_no c.before.has-buffer.ensures.1 c.if1.true)))
+    (λ c. sym (not-put _ 6 _ (is_no c.has_buffer.ensures.1 c.if-not-has_buffer.true-raw)))
     (λ c κs. search rules)
-    (λ c. rw c.object-length.ensures (sym (is-put _ 6 _ (is_yes c.before.before.has-buffer.ensures.1 c.before.if1.false)))))
+    (λ c. rw c.object_length.ensures (sym (is-put _ 6 _ (is_yes c.has_buffer.ensures.1 c.if-not-has_buffer.false-raw)))))

@@ -8,17 +8,17 @@ use Rattle.families.proofs.Verdicts.{is_no, is_yes}
 use Rattle.families.proofs.questions.buffer_serves.Statement.{statement}
 use Rattle.families.proofs.questions.buffer_serves.Tie as tie
 
-returns : tie.Need-returns
+returns : tie.Need-returns-then-not-buffer_fits
 unfolding put
-returns c = sym (stop _ _ (is_no c.before.buffer-fits.ensures c.if1.true))
+returns c = sym (stop _ _ (is_no c.buffer_fits.ensures c.if-not-buffer_fits.true-raw))
 
-returns-2 : tie.Need-returns-2
+returns-2 : tie.Need-returns-then-not-holds
 unfolding put
-returns-2 c = sym (past _ _ (is_yes c.before.before.before.buffer-fits.ensures c.before.before.if1.false) ∙ stop _ _ (is_no c.before.holds.ensures c.if2.true))
+returns-2 c = sym (past _ _ (is_yes c.buffer_fits.ensures c.if-not-buffer_fits.false-raw) ∙ stop _ _ (is_no c.holds.ensures c.if-not-holds.true-raw))
 
-returns-3 : tie.Need-returns-3
+returns-3 : tie.Need-returns
 unfolding put
-returns-3 c = sym (past _ _ (is_yes c.before.before.before.buffer-fits.ensures c.before.before.if1.false) ∙ past _ _ (is_yes c.before.holds.ensures c.if2.false) ∙ none_left)
+returns-3 c = sym (past _ _ (is_yes c.buffer_fits.ensures c.if-not-buffer_fits.false-raw) ∙ past _ _ (is_yes c.holds.ensures c.if-not-holds.false-raw) ∙ none_left)
 
 pub buffer_serves_spec : {M : Type 1} → statement M
 buffer_serves_spec =

@@ -8,21 +8,21 @@ use Rattle.families.proofs.Verdicts.{size-told, too_large, below, beyond, betwee
 use Rattle.families.proofs.questions.closing.Statement.{statement}
 use Rattle.families.proofs.questions.closing.Tie as tie
 
-returns : tie.Need-returns
+returns : tie.Need-returns-in-TooLarge
 unfolding closing_for put
-returns c = sym (stop _ _ (too_large _ _ (size-told c.before.before.before.number-fits.ensures c.enum_told.given.1)))
+returns c = sym (stop _ _ (too_large _ _ (size-told c.number_fits-size.ensures c.in-TooLarge.is)))
 
-returns-2 : tie.Need-returns-2
+returns-2 : tie.Need-returns-in-Below
 unfolding closing_for put
 returns-2 c =
-    let both = below _ _ (size-told c.before.before.before.number-fits.ensures c.enum-told2.given.1) in
-    c.before.before.buffer-serves.ensures ∙ sym (between_pass _ _ _ _ both.0 both.1)
+    let both = below _ _ (size-told c.number_fits-size.ensures c.in-Below.is) in
+    c.buffer_serves-served.ensures ∙ sym (between_pass _ _ _ _ both.0 both.1)
 
-returns-3 : tie.Need-returns-3
+returns-3 : tie.Need-returns-in-Beyond
 unfolding closing_for put
 returns-3 c =
-    let both = beyond _ _ (size-told c.before.before.before.before.number-fits.ensures c.before.enum-told3.given.1) in
-    c.or-beyond.ensures _ c.before.before.before.buffer-serves.ensures ∙ sym (between_no _ _ _ _ both.0 both.1)
+    let both = beyond _ _ (size-told c.number_fits-size.ensures c.in-Beyond.is) in
+    c.or_beyond.ensures _ c.buffer_serves-served.ensures ∙ sym (between_no _ _ _ _ both.0 both.1)
 
 pub closing_spec : {M : Type 1} → statement M
 closing_spec =

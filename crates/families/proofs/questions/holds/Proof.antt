@@ -12,6 +12,6 @@ holds_spec =
     tie.close
     (tie.spec
     (λ c κs. search rules)
-    (λ c. sym (not-put _ 7 _ (is_no c.before.reads-an-object.ensures c.if1.true)))
+    (λ c. sym (not-put _ 7 _ (is_no c.reads_an_object.ensures c.if-not-reads_an_object.true-raw)))
     (λ c κs. search rules)
-    (λ c. c.is-object.ensures ∙ sym (is-put _ 7 _ (is_yes c.before.before.reads-an-object.ensures c.before.if1.false))))
+    (λ c. c.is_object.ensures ∙ sym (is-put _ 7 _ (is_yes c.reads_an_object.ensures c.if-not-reads_an_object.false-raw))))

@@ -45,22 +45,22 @@ five_alone : (c : CallOf) (a b : Bool) → is_in 5 (asked c) ≡ true → is_in 
 unfolding first_no put
 five_alone c a b e h = rw (e, h)
 
-returns : tie.Need-returns
+returns : tie.Need-returns-then-not-says_a_number
 returns c =
-    let none_said = is_no c.before.says-a-number.ensures c.if1.true in
+    let none_said = is_no c.says_a_number.ensures c.if-not-says_a_number.true-raw in
     sym (past _ _ (not-put _ 5 _ none_said) ∙ past _ _ (not-put _ 8 _ (no_number _ none_said)) ∙ none_left)
 
-returns-2 : tie.Need-returns-2
+returns-2 : tie.Need-returns-in_default
 unfolding rank_refusal
 returns-2 c =
-    let said = is_yes c.before.before.before.before.before.says-a-number.ensures c.before.before.before.before.if1.false in
-    c.fits2.ensures _ _ c.before.before.rank-size.ensures ∙ sym (five_alone _ _ _ said (no_rank c.before.before.before.before.before.before.args.c c.before.match.keys2))
+    let said = is_yes c.says_a_number.ensures c.if-not-says_a_number.false-raw in
+    c.fits2.ensures _ _ c.rank_size-size.ensures ∙ sym (five_alone _ _ _ said (no_rank c.args.c c.in_default.in_default-own.keys2))
 
-returns-3 : tie.Need-returns-3
+returns-3 : tie.Need-returns
 unfolding put asked is_in rank_given rank_refusal
 returns-3 c =
-    let told = c.enum_told.given.1 in
-    rw told (rw (c.before.before.before.rank-given.ensures, told) at c.before.before.rank-size.ensures)
+    let told = c.in-Unrank.is in
+    rw told (rw (c.rank_given.ensures, told) at c.rank_size-size.ensures)
 
 pub number_fits_spec : {M : Type 1} → statement M
 number_fits_spec =

@@ -9,17 +9,17 @@ use Rattle.families.proofs.FamilyFacts.{allowed-asked}
 use Rattle.families.proofs.questions.opening.Statement.{statement}
 use Rattle.families.proofs.questions.opening.Tie as tie
 
-returns : tie.Need-returns
+returns : tie.Need-returns-then-not-some_object
 unfolding opening put
-returns c = sym (after_pass _ _ (verdict c.before.before.before.before.asked-of-all.ensures c.before.before.enum_told.given.1) ∙ stop _ _ (is_no c.before.some-object.ensures c.if1.true))
+returns c = sym (after_pass _ _ (verdict c.asked_of_all.ensures c.in_default.is) ∙ stop _ _ (is_no c.some_object.ensures c.if-not-some_object.true-raw))
 
-returns-2 : tie.Need-returns-2
+returns-2 : tie.Need-returns-in_default
 unfolding opening put
-returns-2 c = sym (after_pass _ _ (verdict c.before.before.before.before.asked-of-all.ensures c.before.before.enum_told.given.1) ∙ past _ _ (is_yes c.before.some-object.ensures c.if1.false) ∙ none_left)
+returns-2 c = sym (after_pass _ _ (verdict c.asked_of_all.ensures c.in_default.is) ∙ past _ _ (is_yes c.some_object.ensures c.if-not-some_object.false-raw) ∙ none_left)
 
-returns-3 : tie.Need-returns-3
+returns-3 : tie.Need-returns
 unfolding opening
-returns-3 c = sym (after_no _ _ (verdict c.before.before.before.asked-of-all.ensures c.before.q.given.1))
+returns-3 c = sym (after_no _ _ (verdict c.asked_of_all.ensures c.in-No.is))
 
 pub opening_spec : {M : Type 1} → statement M
 opening_spec =
@@ -28,7 +28,7 @@ opening_spec =
     (λ c κs. search rules)
     (λ c. search rules)
     (λ c. search rules)
-    (λ c κs. allowed-asked _ _ (verdict c.before.before.asked-of-all.ensures c.enum_told.given.1))
+    (λ c κs. allowed-asked _ _ (verdict c.asked_of_all.ensures c.in_default.is))
     returns
     returns-2
     returns-3)

@@ -11,9 +11,9 @@ use Rattle.families.proofs.Verdicts.{verdict}
 use Rattle.families.proofs.questions.or_beyond.Statement.{statement}
 use Rattle.families.proofs.questions.or_beyond.Tie as tie
 
-returns : tie.Need-returns
+returns : tie.Need-returns-in_default
 unfolding first_no
-returns c = λ qs e. sym (after_pass qs (always 8 false ∷ []) (verdict e c.enum_told.given.1))
+returns c = λ qs e. sym (after_pass qs (always 8 false ∷ []) (verdict e c.in_default.is))
 
 pub or_beyond_spec : {M : Type 1} → statement M
 or_beyond_spec =
@@ -22,4 +22,4 @@ or_beyond_spec =
     (λ c. search rules)
     (λ c. search rules)
     returns
-    (λ c. λ qs e. sym (after_no qs (always 8 false ∷ []) (verdict e c.before.v.given.1))))
+    (λ c. λ qs e. sym (after_no qs (always 8 false ∷ []) (verdict e c.in-No.is))))

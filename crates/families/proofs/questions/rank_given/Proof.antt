@@ -24,14 +24,14 @@ no_rank Call.Previous keys = refl
 no_rank Call.Rank keys = refl
 no_rank (Call.Unrank r) keys = absurd (miss (0 ∷ 1 ∷ 2 ∷ 3 ∷ 4 ∷ 5 ∷ []) 6 tt keys)
 
-returns-2 : tie.Need-returns-2
+returns-2 : tie.Need-returns
 unfolding rank_given
-returns-2 c = rw c.before.c.given.1
+returns-2 c = rw c.in-Unrank.is
 
 pub rank_given_spec : {M : Type 1} → statement M
 rank_given_spec =
     tie.close
     (tie.spec
     (λ c. search rules)
-    (λ c. sym (no_rank c.before.args.c c.match.keys2))
+    (λ c. sym (no_rank c.args.c c.in_default.in_default-own.keys2))
     returns-2)

@@ -5,33 +5,33 @@ use Rattle.families.specs.Questions.{asked, is_in}
 use Rattle.families.proofs.questions.says_a_number.Statement.{statement}
 use Rattle.families.proofs.questions.says_a_number.Tie as tie
 
-returns : tie.Need-returns
+returns : tie.Need-returns-in-Count
 unfolding asked is_in
-returns c = rw c.enum_told.given.1
+returns c = rw c.in-Count.is
 
-returns-2 : tie.Need-returns-2
+returns-2 : tie.Need-returns-in-First
 unfolding asked is_in
-returns-2 c = rw c.enum-told2.given.1
+returns-2 c = rw c.in-First.is
 
-returns-3 : tie.Need-returns-3
+returns-3 : tie.Need-returns-in-Last
 unfolding asked is_in
-returns-3 c = rw c.enum-told3.given.1
+returns-3 c = rw c.in-Last.is
 
-returns-4 : tie.Need-returns-4
+returns-4 : tie.Need-returns-in-Next
 unfolding asked is_in
-returns-4 c = rw c.enum-told4.given.1
+returns-4 c = rw c.in-Next.is
 
-returns-5 : tie.Need-returns-5
+returns-5 : tie.Need-returns-in-Previous
 unfolding asked is_in
-returns-5 c = rw c.enum-told5.given.1
+returns-5 c = rw c.in-Previous.is
 
-returns-6 : tie.Need-returns-6
+returns-6 : tie.Need-returns-in-Rank
 unfolding asked is_in
-returns-6 c = rw c.enum-told6.given.1
+returns-6 c = rw c.in-Rank.is
 
-returns-7 : tie.Need-returns-7
+returns-7 : tie.Need-returns-in-Unrank
 unfolding asked is_in
-returns-7 c = rw c.enum-told7.given.1
+returns-7 c = rw c.in-Unrank.is
 
 pub says_a_number_spec : {M : Type 1} → statement M
 says_a_number_spec =

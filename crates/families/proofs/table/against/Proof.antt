@@ -8,14 +8,14 @@ use Rattle.families.proofs.CountAnswers.{is_too_large, is_below, is_beyond}
 use Rattle.families.proofs.table.against.Statement.{statement}
 use Rattle.families.proofs.table.against.Tie as tie
 
-returns-2 : tie.Need-returns-2
+returns-2 : tie.Need-returns-then-rank-v
 returns-2 c = λ v e.
-    let exact = sym e ∙ c.before.before.count.given.1 in
+    let exact = sym e ∙ c.in-Exactly.is in
     sym (is_below _ v (exactly_below v _ exact) (omega (arith, exactly v _ exact)))
 
-returns-3 : tie.Need-returns-3
+returns-3 : tie.Need-returns
 returns-3 c = λ v e.
-    let exact = sym e ∙ c.before.before.count.given.1 in
+    let exact = sym e ∙ c.in-Exactly.is in
     sym (is_beyond _ v (exactly_below v _ exact) (omega (arith, exactly v _ exact)))
 
 pub against_spec : {M : Type 1} → statement M
@@ -23,6 +23,6 @@ against_spec =
     tie.close
     (tie.spec
     (λ c. search rules)
-    (λ c. λ v e. sym (is_too_large _ v (not_exact v e c.match.keys2)))
+    (λ c. λ v e. sym (is_too_large _ v (not_exact v e c.in_default.in_default-own.keys2)))
     returns-2
     returns-3)

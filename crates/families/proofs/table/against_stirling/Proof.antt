@@ -19,13 +19,13 @@ against_stirling_spec =
     (tie.spec
     (λ c κs. search rules)
     (λ c κs. search rules)
-    (λ c. c.against.ensures _ (answer-within c.before.stirling.ensures c.before.before.before.requires refl))
-    (λ c κs. n_within _ _ _ c.before.requires)
-    (λ c. sym (is_too_large _ _ (ltb-false _ _ (is_no c.before.stirling-fits.ensures c.if2.true))))
+    (λ c. c.against.ensures _ (answer-within c.stirling.ensures c.requires refl))
+    (λ c κs. n_within _ _ _ c.requires)
+    (λ c. sym (is_too_large _ _ (ltb-false _ _ (is_no c.stirling_fits.ensures c.if-not-stirling_fits.true-raw))))
     (λ c κs. search rules)
     (λ c.
-    let some : 0 < stirling_of c.before.before.before.before.before.args.n c.before.before.before.before.before.args.k = ltb-true 0 _ (stirling_some _ _ ∙ sym c.before.shared-out.ensures ∙ c.if3.true) in
-    sym (is_below _ _ (ltb-true _ _ (is_yes c.before.before.before.stirling-fits.ensures c.before.before.if2.false)) (omega arith)))
+    let some : 0 < stirling_of c.args.n c.args.k = ltb-true 0 _ (stirling_some _ _ ∙ sym c.shared_out.ensures ∙ c.if-shared_out.true) in
+    sym (is_below _ _ (ltb-true _ _ (is_yes c.stirling_fits.ensures c.if-not-stirling_fits.false-raw)) (omega arith)))
     (λ c.
-    let none : stirling_of c.before.before.before.before.before.args.n c.before.before.before.before.before.args.k ≤ 0 = ltb-false 0 _ (stirling_some _ _ ∙ sym c.before.shared-out.ensures ∙ c.if3.false) in
-    sym (is_beyond _ _ (ltb-true _ _ (is_yes c.before.before.before.stirling-fits.ensures c.before.before.if2.false)) (omega arith))))
+    let none : stirling_of c.args.n c.args.k ≤ 0 = ltb-false 0 _ (stirling_some _ _ ∙ sym c.shared_out.ensures ∙ c.if-shared_out.false) in
+    sym (is_beyond _ _ (ltb-true _ _ (is_yes c.stirling_fits.ensures c.if-not-stirling_fits.false-raw)) (omega arith))))

@@ -14,7 +14,7 @@ answer_spec =
     (tie.spec
     (λ c κs. search rules)
     (λ c.
-    let t = handed 1 c.before.before.args.f (lent (map (λ x. x.now) c.before.before.args.lists)) c.before.if1.true c.before.before.requires in
-    answer-within c.subset-count.ensures t.bounds t.counted)
+    let t = handed 1 c.args.f (lent (map (λ x. x.now) c.args.lists)) c.if-kind-eq1.true c.requires in
+    answer-within c.subset_count.ensures t.bounds t.counted)
     (λ c κs. search rules)
     (λ c. c.count.ensures))

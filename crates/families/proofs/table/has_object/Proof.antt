@@ -14,21 +14,21 @@ use Rattle.families.proofs.Dispatch.{handed, some_parts}
 use Rattle.families.proofs.table.has_object.Statement.{statement}
 use Rattle.families.proofs.table.has_object.Tie as tie
 
-returns : tie.Need-returns
+returns : tie.Need-returns-in-1
 unfolding row
-returns c = rw c.match.keys1
+returns c = rw c.in-1.is
 
-returns-2 : tie.Need-returns-2
+returns-2 : tie.Need-returns-in-2
 unfolding row
-returns-2 c = rw c.match.keys2
+returns-2 c = rw c.in-2.is
 
-returns-3 : tie.Need-returns-3
+returns-3 : tie.Need-returns-in-3
 unfolding row
-returns-3 c = rw c.match.keys3
+returns-3 c = rw c.in-3.is
 
-returns-4 : tie.Need-returns-4
+returns-4 : tie.Need-returns-in-4
 unfolding row
-returns-4 c = rw c.before.match.keys4 c.shared-out.ensures
+returns-4 c = rw c.in-4.is c.shared_out.ensures
 
 -- k and the floor are small
 mul-shared-out : tie.Need-overflow-mul-shared-out
@@ -39,18 +39,18 @@ mul-shared-out c =
     let most : f.floor ≤ floors = floor_most f _ c.before.requires c.match.keys5 in
     omega (arith, mul-le-mul k_most most)
 
-returns-5 : tie.Need-returns-5
+returns-5 : tie.Need-returns-in-5
 unfolding row
 returns-5 c =
-    rw (c.before.match.keys5, ← some_parts _ _ (floor_positive _ _ c.before.before.requires c.before.match.keys5)) c.shared-out2.ensures
+    rw (c.in-5.is, ← some_parts _ _ (floor_positive _ _ c.requires c.in-5.is)) c.shared_out-in-5.ensures
 
-returns-6 : tie.Need-returns-6
+returns-6 : tie.Need-returns-in-6
 unfolding row
-returns-6 c = rw c.match.keys6
+returns-6 c = rw c.in-6.is
 
-returns-7 : tie.Need-returns-7
+returns-7 : tie.Need-returns-in-7
 unfolding row
-returns-7 c = rw c.match.keys7
+returns-7 c = rw c.in-7.is
 
 pub has_object_spec : {M : Type 1} → statement M
 has_object_spec =
@@ -66,4 +66,4 @@ has_object_spec =
     returns-5
     returns-6
     returns-7
-    (λ c. absurd (has_arm _ _ c.before.requires c.match.rest)))
+    (λ c. absurd (has_arm _ _ c.requires c.in_default.in_default-own.rest)))

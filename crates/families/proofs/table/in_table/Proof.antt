@@ -6,15 +6,19 @@ use Rattle.families.proofs.Dispatch.{two_limits}
 use Rattle.families.proofs.table.in_table.Statement.{statement}
 use Rattle.families.proofs.table.in_table.Tie as tie
 
-returns : tie.Need-returns
+returns : tie.Need-returns-then-f-most_n
 returns c =
-    let f = c.before.before.before.before.before.args.f in
-    rw (two_limits f _ c.before.before.before.before.before.requires, ← c.before.most-k.ensures, ← c.before.before.before.before.most-n.ensures, le-leb f.n _ c.before.before.if1.true)
+    let f = c.args.f in
+    rw (two_limits f _ c.requires, ← c.most_k.ensures, ← c.most_n.ensures, le-leb f.n _ c.if-f-most_n.true)
 
-returns-2 : tie.Need-returns-2
+returns-2 : tie.Need-returns-else-f-most_n
 returns-2 c =
-    let f = c.before.before.before.args.f in
-    rw (two_limits f _ c.before.before.before.requires, ← c.before.before.most-n.ensures, lt-leb f.n _ c.if1.false)
+    let f = c.args.f in
+    rw (two_limits f _ c.requires, ← c.most_n.ensures, lt-leb f.n _ c.if-f-most_n.false)
 
 pub in_table_spec : {M : Type 1} → statement M
-in_table_spec = tie.close (tie.spec (λ c κs. search rules) (λ c κs. search rules) returns returns-2)
+in_table_spec = tie.close (tie.spec
+    (λ c κs. search rules)
+    (λ c κs. search rules)
+    returns
+    returns-2)

@@ -5,13 +5,15 @@ use Rattle.families.specs.Families.{is_kind}
 use Rattle.families.proofs.table.is_kind.Statement.{statement}
 use Rattle.families.proofs.table.is_kind.Tie as tie
 
-returns : tie.Need-returns
+returns : tie.Need-returns-then-f-ge1
 unfolding is_kind
-returns c = rw (le-leb 1 c.before.before.before.args.f.kind c.before.if1.true)
+returns c = rw (le-leb 1 c.args.f.kind c.if-f-ge1.true)
 
-returns-2 : tie.Need-returns-2
+returns-2 : tie.Need-returns-else-f-ge1
 unfolding is_kind
-returns-2 c = rw (lt-leb 1 c.before.before.args.f.kind c.if1.false)
+returns-2 c = rw (lt-leb 1 c.args.f.kind c.if-f-ge1.false)
 
 pub is_kind_spec : {M : Type 1} → statement M
-is_kind_spec = tie.close (tie.spec returns returns-2)
+is_kind_spec = tie.close (tie.spec
+    returns
+    returns-2)

@@ -11,9 +11,9 @@ use Rattle.basics.proofs.Totals.{to_limit}
 use Rattle.families.proofs.table.lists_fit.Statement.{statement}
 use Rattle.families.proofs.table.lists_fit.Tie as tie
 
-returns : tie.Need-returns
+returns : tie.Need-returns-then-kind-ne2
 unfolding no_counts
-returns c = rw (← get_or-map (λ x. x.now) c.before.before.args.t2 0 _) (sym (no_counts_lem c.before.before.args.f (lent (map (λ x. x.now) c.before.before.args.t2)) c.if1.true))
+returns c = rw (← get_or-map (λ x. x.now) c.args.t2 0 _) (sym (no_counts_lem c.args.f (lent (map (λ x. x.now) c.args.t2)) c.if-kind-ne2.true))
 
 pub lists_fit_spec : {M : Type 1} → statement M
 lists_fit_spec =
@@ -22,10 +22,10 @@ lists_fit_spec =
     (λ c. search rules)
     returns
     (λ c.
-    let other = rw (← get_or-map (λ x. x.now) c.before.before.before.args.t2 0 _) at c.if2.true in
-    sym (with_counts_lem _ _ c.before.if1.false ∙ rw (ne_eqb _ _ other)))
+    let other = rw (← get_or-map (λ x. x.now) c.args.t2 0 _) at c.if-counts-n.true in
+    sym (with_counts_lem _ _ c.if-kind-ne2.false ∙ rw (ne_eqb _ _ other)))
     (λ c κs. search rules)
     (λ c.
-    let many = rw (← get_or-map (λ x. x.now) c.before.before.before.before.args.t2 0 _) at c.before.if2.false in
-    let sum = rw (← get_or-map (λ x. x.now) c.before.before.before.before.args.t2 0 _) at c.sum-to-limit.ensures in
-    rw (sum, to_limit) (sym (with_counts_lem _ _ c.before.before.if1.false ∙ rw (eq-eqb _ _ many)))))
+    let many = rw (← get_or-map (λ x. x.now) c.args.t2 0 _) at c.if-counts-n.false in
+    let sum = rw (← get_or-map (λ x. x.now) c.args.t2 0 _) at c.sum_to_limit.ensures in
+    rw (sum, to_limit) (sym (with_counts_lem _ _ c.if-kind-ne2.false ∙ rw (eq-eqb _ _ many)))))

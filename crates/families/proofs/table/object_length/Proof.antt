@@ -17,29 +17,29 @@ use Rattle.families.proofs.Dispatch.{handed, n_within, sum_fits}
 use Rattle.families.proofs.table.object_length.Statement.{statement}
 use Rattle.families.proofs.table.object_length.Tie as tie
 
-returns : tie.Need-returns
+returns : tie.Need-returns-in-1
 unfolding object_length row
-returns c = rw c.match.keys1
+returns c = rw c.in-1.is
 
-returns-3 : tie.Need-returns-3
+returns-3 : tie.Need-returns-in-3
 unfolding object_length row
-returns-3 c = rw c.match.keys3
+returns-3 c = rw c.in-3.is
 
-returns-4 : tie.Need-returns-4
+returns-4 : tie.Need-returns-in-4
 unfolding object_length row
-returns-4 c = rw c.match.keys4
+returns-4 c = rw c.in-4.is
 
-returns-5 : tie.Need-returns-5
+returns-5 : tie.Need-returns-in-5
 unfolding object_length row
-returns-5 c = rw c.match.keys5
+returns-5 c = rw c.in-5.is
 
-returns-6 : tie.Need-returns-6
+returns-6 : tie.Need-returns-in-6
 unfolding object_length row
-returns-6 c = rw c.match.keys6
+returns-6 c = rw c.in-6.is
 
-returns-7 : tie.Need-returns-7
+returns-7 : tie.Need-returns-in-7
 unfolding object_length row
-returns-7 c = rw c.match.keys7
+returns-7 c = rw c.in-7.is
 
 pub object_length_spec : {M : Type 1} → statement M
 object_length_spec =
@@ -48,17 +48,17 @@ object_length_spec =
     (λ c. search rules)
     (λ c κs. search rules)
     (λ c.
-    let t = handed 6 c.before.before.args.f (lent (map (λ x. x.now) c.before.before.args.t2)) c.match.keys6 c.before.before.requires in
-    let small : c.before.before.args.f.n ≤ branches = n_within _ _ _ t.bounds in
+    let t = handed 6 c.args.f (lent (map (λ x. x.now) c.args.t2)) c.in-6.is c.requires in
+    let small : c.args.f.n ≤ branches = n_within _ _ _ t.bounds in
     omega arith)
     returns
     (λ c.
-    let t = handed 2 c.before.before.before.args.f (lent (map (λ x. x.now) c.before.before.before.args.t2)) c.before.match.keys2 c.before.before.before.requires in
-    let short = leb-true (total (lent (map (λ x. x.now) c.before.before.before.args.t2)).counts) places (sum_fits t) in
-    (rw (← get_or-map (λ x. x.now) c.before.before.before.args.t2 0 _) at c.sum-to-limit.ensures) ∙ min-eq_left (omega arith) ∙ sym t.long)
+    let t = handed 2 c.args.f (lent (map (λ x. x.now) c.args.t2)) c.in-2.is c.requires in
+    let short = leb-true (total (lent (map (λ x. x.now) c.args.t2)).counts) places (sum_fits t) in
+    (rw (← get_or-map (λ x. x.now) c.args.t2 0 _) at c.sum_to_limit.ensures) ∙ min-eq_left (omega arith) ∙ sym t.long)
     returns-3
     returns-4
     returns-5
     returns-6
     returns-7
-    (λ c. absurd (has_arm _ _ c.before.before.requires c.match.rest)))
+    (λ c. absurd (has_arm _ _ c.requires c.in_default.in_default-own.rest)))

@@ -11,10 +11,10 @@ pub rank_size_spec : {M : Type 1} → statement M
 rank_size_spec =
     tie.close
     (tie.spec
-    (λ c κs. (handed 4 c.before.args.f (lent (map (λ x. x.now) c.before.args.lists)) c.if1.true c.before.requires).bounds)
+    (λ c κs. (handed 4 c.args.f (lent (map (λ x. x.now) c.args.lists)) c.if-kind-eq4.true c.requires).bounds)
     (λ c.
-    let t = handed 4 c.before.before.args.f (lent (map (λ x. x.now) c.before.before.args.lists)) c.before.if1.true c.before.before.requires in
-    rw t.counted c.against-stirling.ensures)
+    let t = handed 4 c.args.f (lent (map (λ x. x.now) c.args.lists)) c.if-kind-eq4.true c.requires in
+    rw t.counted c.against_stirling.ensures)
     (λ c κs. search rules)
     (λ c κs. search rules)
-    (λ c. c.against.ensures _ c.before.count.ensures))
+    (λ c. c.against.ensures _ c.count.ensures))

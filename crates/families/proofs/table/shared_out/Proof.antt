@@ -4,11 +4,14 @@ use borrow.Author.Tests.{le-leb, lt-leb, lt-ltb, le-ltb}
 use Rattle.families.proofs.table.shared_out.Statement.{statement}
 use Rattle.families.proofs.table.shared_out.Tie as tie
 
-returns-2 : tie.Need-returns-2
-returns-2 c = rw (le-leb c.before.before.args.k c.before.before.args.n c.before.if1.false, lt-ltb 0 c.before.before.args.k c.if2.true)
+returns-2 : tie.Need-returns-then-k-gt0
+returns-2 c = rw (le-leb c.args.k c.args.n c.if-n-k.false, lt-ltb 0 c.args.k c.if-k-gt0.true)
 
-returns-3 : tie.Need-returns-3
-returns-3 c = rw (le-leb c.before.before.args.k c.before.before.args.n c.before.if1.false, le-ltb 0 c.before.before.args.k c.if2.false)
+returns-3 : tie.Need-returns
+returns-3 c = rw (le-leb c.args.k c.args.n c.if-n-k.false, le-ltb 0 c.args.k c.if-k-gt0.false)
 
 pub shared_out_spec : {M : Type 1} → statement M
-shared_out_spec = tie.close (tie.spec (λ c. rw (lt-leb c.before.args.k c.before.args.n c.if1.true)) returns-2 returns-3)
+shared_out_spec = tie.close (tie.spec
+    (λ c. rw (lt-leb c.args.k c.args.n c.if-n-k.true))
+    returns-2
+    returns-3)

@@ -5,4 +5,7 @@ use Rattle.grammar.proofs.counts.at_most_255.Statement.{statement}
 use Rattle.grammar.proofs.counts.at_most_255.Tie as tie
 
 pub at_most_255_spec : {M : Type 1} → statement M
-at_most_255_spec = tie.close (tie.spec (λ c. omega arith) (λ c. omega arith) (λ c. omega arith))
+at_most_255_spec = tie.close (tie.spec
+    (λ c. omega arith)
+    (λ c. omega arith)
+    (λ c. omega arith))

@@ -14,41 +14,41 @@ use Rattle.grammar.proofs.LineLaws.{after, counts-none, counts_bad, counts-more,
 use Rattle.grammar.proofs.counts.read_counts.Statement.{statement}
 use Rattle.grammar.proofs.counts.read_counts.Tie as tie
 
-abbrev invariant-loop : tie.invariant-loop
+abbrev invariant-loop : tie.invariant-loop-i
 invariant-loop line counts₀ i₀ counts i =
     (i ≤ length counts₀)
     × ((length counts ≡ length counts₀)
     × (handed_on (fields (length counts₀) line) ≡ after (take i counts) (handed_on (fields (length counts₀ - i) (drop (field_width * i) line)))))
 
-abbrev decreases-loop : tie.decreases-loop
+abbrev decreases-loop : tie.decreases-loop-i
 decreases-loop line counts₀ i₀ counts i = length counts₀ - i
 
-returns : tie.Need-returns invariant-loop decreases-loop
+returns : tie.Need-returns-in_default invariant-loop decreases-loop
 unfolding value_as
 returns c =
-    let l = c.before.before.before.before.loop in
-    let a = c.before.before.before.before.before.before.before.args in
-    l.invariant.1.1 ∙ counts_bad (take l.i l.counts) a.line.now (length a.counts.now) l.i (omega arith) (sym c.before.before.number_at.ensures ∙ ap value_as c.enum_told.given.1)
+    let l = c.loop-i in
+    let a = c.args in
+    l.invariant.1.1 ∙ counts_bad (take l.i l.counts) a.line.now (length a.counts.now) l.i (omega arith) (sym c.number_at.ensures ∙ ap value_as c.in_default.is)
 
-loop-again : tie.Need-loop-preserved invariant-loop decreases-loop
+loop-again : tie.Need-loop-i-preserved invariant-loop decreases-loop
 unfolding value_as
 loop-again c =
-    let l = c.before.before.before.before.before.before.loop in
-    let a = c.before.before.before.before.before.before.before.before.before.args in (
+    let l = c.loop-i in
+    let a = c.args in (
       omega arith,
       (
         simp length-set l.invariant.1.0,
         l.invariant.1.1
-            ∙ counts-more l.counts a.line.now (length a.counts.now) l.i c.before.before.v.given.0.0 c.at-most-255.result (omega arith) (omega arith)
-            (sym c.before.before.before.before.number_at.ensures ∙ ap value_as c.before.before.v.given.1)
-            c.at-most-255.ensures,
+            ∙ counts-more l.counts a.line.now (length a.counts.now) l.i c.in-Number.v c.at_most_255.result (omega arith) (omega arith)
+            (sym c.number_at.ensures ∙ ap value_as c.in-Number.is)
+            c.at_most_255.ensures,
       ),
     )
 
-returns-2 : tie.Need-returns-2 invariant-loop decreases-loop
+returns-2 : tie.Need-returns invariant-loop decreases-loop
 returns-2 c =
-    let l = c.before.loop in
-    let a = c.before.before.before.before.args in
+    let l = c.loop-i in
+    let a = c.args in
     l.invariant.1.1 ∙ counts_all (take l.i l.counts) a.line.now (length a.counts.now) l.i (omega arith) ∙ ap some (take_all l.i l.counts (omega arith))
 
 pub read_counts_spec : {M : Type 1} → statement M
@@ -57,7 +57,7 @@ read_counts_spec =
     (tie.spec
     invariant-loop
     decreases-loop
-    (λ c. (omega arith, (refl, counts-none c.before.before.args.line.now (length c.before.before.args.counts.now))))
+    (λ c. (omega arith, (refl, counts-none c.args.line.now (length c.args.counts.now))))
     (λ c κs. search rules)
     (λ c. search rules)
     (λ c. search rules)

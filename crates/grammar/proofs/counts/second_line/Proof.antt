@@ -19,7 +19,7 @@ use Rattle.grammar.proofs.counts.second_line.Statement.{statement}
 use Rattle.grammar.proofs.counts.second_line.Tie as tie
 
 -- the counts that the family asks for
-module _ (c : tie.After-how-many) where
+module _ (c : tie.After-how_many-m) where
   abbrev start : tie.Start
   start = c.before.before.before
 
@@ -30,52 +30,51 @@ module _ (c : tie.After-how-many) where
   x = start.args.rest.now
 
   abbrev m : ℕ
-  m = c.how-many.result
+  m = c.how_many-m.result
 
   by : {o : Option (List ℕ)} {r : Option Slip} → second_line m x ≡ o → with_counts h (handed_on o) ≡ r → slip_with h x ≡ r
-  by = by_line h x c.how-many.ensures.1
+  by = by_line h x c.how_many-m.ensures.value
 
-returns : tie.Need-returns
+returns : tie.Need-returns-then-rest-eq0
 unfolding handed_on with_counts parsed_as
-returns c = let e = c.before.before in (at_most (h e) 0 most_counts (omega arith), by e (line_absent (m e) (x e) c.before.if1.true c.if2.true) refl)
+returns c = let e = c.before.before in record { at_most = at_most (h e) 0 most_counts (omega arith); rest_value = by e (line_absent (m e) (x e) c.if-m-eq0.true c.if-rest-eq0.true) refl }
 
-returns-2 : tie.Need-returns-2
+returns-2 : tie.Need-returns-then-m-eq0
 unfolding handed_on with_counts parsed_as
-returns-2 c = let e = c.before.before in (at_most_malformed most_counts, by e (line_unasked (m e) (x e) c.before.if1.true c.if2.false) refl)
+returns-2 c = let e = c.before.before in record { at_most = at_most_malformed most_counts; rest_value = by e (line_unasked (m e) (x e) c.if-m-eq0.true c.if-rest-eq0.false) refl }
 
-returns-3 : tie.Need-returns-3
+returns-3 : tie.Need-returns-then-rest-end
 unfolding handed_on with_counts parsed_as
-returns-3 c = let e = c.before.before in (at_most_malformed most_counts, by e (line_present (m e) (x e) c.before.if1.false ∙ line-width (m e) (x e) (λ q. omega arith)) refl)
+returns-3 c = let e = c.before.before in record { at_most = at_most_malformed most_counts; rest_value = by e (line_present (m e) (x e) c.if-m-eq0.false ∙ line-width (m e) (x e) (λ q. omega arith)) refl }
 
-returns-4 : tie.Need-returns-4
+returns-4 : tie.Need-returns-then-rest-end-ne10
 unfolding handed_on with_counts parsed_as
-returns-4 c = let e = c.before.before.before.before in (at_most_malformed most_counts, by e (line_present (m e) (x e) c.before.before.before.if1.false ∙ line_end (m e) (x e) c.if4.true) refl)
+returns-4 c = let e = c.before.before.before.before in record { at_most = at_most_malformed most_counts; rest_value = by e (line_present (m e) (x e) c.if-m-eq0.false ∙ line_end (m e) (x e) c.if-rest-end-ne10.true) refl }
 
-abbrev asked : tie.Else4 → tie.After-how-many
+abbrev asked : tie.Else-rest-end-ne10 → tie.After-how_many-m
 asked c = c.before.before.before.before
 
 -- the part that is lent has room for the counts
-lent : (c : tie.After-read-counts-arg) → let e = asked c.before in length (take (m e) (start e).args.counts.now) ≡ m e
+lent : (c : tie.After-read_counts-arg-1) → let e = asked c.before in length (take (m e) (start e).args.counts.now) ≡ m e
 lent c = let e = asked c.before in length-take-le (m e) (start e).args.counts.now (omega arith)
 
 -- past the tests the line is there and ends, so its fields are the counts
-read : (c : tie.After-read-counts) → let e = asked c.before.before in slip_with (h e) (x e) ≡ with_counts (h e) (cond c.read-counts.result (some c.read-counts.new.1.0) none)
+read : (c : tie.After-read_counts) → let e = asked c.before.before in slip_with (h e) (x e) ≡ with_counts (h e) (cond c.read_counts.result (some c.read_counts.new.counts) none)
 read c =
     let l = c.before.before in
     let e = asked l in
-    by e (line_present (m e) (x e) l.before.before.before.if1.false ∙ line-fields (m e) (x e) (omega arith) l.if4.false) (ap (with_counts (h e)) (ap (λ (k : ℕ). handed_on (fields k (x e))) (sym (lent c.before)) ∙ c.read-counts.ensures))
+    by e (line_present (m e) (x e) l.if-m-eq0.false ∙ line-fields (m e) (x e) (omega arith) l.if-rest-end-ne10.false) (ap (with_counts (h e)) (ap (λ (k : ℕ). handed_on (fields k (x e))) (sym (lent c.before)) ∙ c.read_counts.ensures))
 
-returns-5 : tie.Need-returns-5
+returns-5 : tie.Need-returns-then-read_counts
 unfolding with_counts parsed_as
 returns-5 c =
     let r = c.before.before.before in
     let e = asked r.before.before in
-    let ys = r.read-counts.new.1.0 in
-    (at_most (h e) (m e) most_counts (omega arith), read r ∙ ap (with_counts (h e)) (ap (λ (b : Bool). cond b (some ys) none) c.if5.true ∙ ap some (sym (take_at ys (drop (m e) (start e).args.counts.now) (m e) (r.read-counts.auto.1.0 ∙ lent r.before)))))
+    let ys = r.read_counts.new.counts in record { at_most = at_most (h e) (m e) most_counts (omega arith); rest_value = read r ∙ ap (with_counts (h e)) (ap (λ (b : Bool). cond b (some ys) none) c.if-read_counts.true ∙ ap some (sym (take_at ys (drop (m e) (start e).args.counts.now) (m e) (r.read_counts.auto.counts ∙ lent r.before)))) }
 
-returns-6 : tie.Need-returns-6
+returns-6 : tie.Need-returns
 unfolding with_counts parsed_as
-returns-6 c = let r = c.before.before.before in (at_most_malformed most_counts, read r ∙ ap (λ (b : Bool). with_counts (h (asked r.before.before)) (cond b (some r.read-counts.new.1.0) none)) c.if5.false)
+returns-6 c = let r = c.before.before.before in record { at_most = at_most_malformed most_counts; rest_value = read r ∙ ap (λ (b : Bool). with_counts (h (asked r.before.before)) (cond b (some r.read_counts.new.counts) none)) c.if-read_counts.false }
 
 pub second_line_spec : {M : Type 1} → statement M
 second_line_spec =

@@ -11,4 +11,11 @@ use Rattle.grammar.proofs.lines.number_at.Tie as tie
 pub number_at_spec : {M : Type 1} → statement M
 number_at_spec =
     tie.close
-    (tie.spec (λ c. search rules) (λ c. search rules) (λ c. search rules) (λ c. search rules) (λ c. search rules) (λ c κs. search rules) (λ c. let a = c.before.before.before.args in c.field.ensures ∙ field_at a.line.now (field_width * a.i)))
+    (tie.spec
+    (λ c. search rules)
+    (λ c. search rules)
+    (λ c. search rules)
+    (λ c. search rules)
+    (λ c. search rules)
+    (λ c κs. search rules)
+    (λ c. let a = c.args in c.field.ensures ∙ field_at a.line.now (field_width * a.i)))

@@ -11,35 +11,35 @@ use Rattle.listings.proofs.Standing.{get_d_default}
 use Rattle.integer_partitions.proofs.search.part_to_lower.Statement.{statement}
 use Rattle.integer_partitions.proofs.search.part_to_lower.Tie as tie
 
-abbrev invariant-loop : tie.invariant-loop
+abbrev invariant-loop : tie.invariant-loop-i
 invariant-loop floor object k i₀ i = (0 < i) × ((j : ℕ) → j < i → 0 < j → get_or object j 0 ≤ get_or object i floor)
 
-abbrev decreases-loop : tie.decreases-loop
+abbrev decreases-loop : tie.decreases-loop-i
 decreases-loop floor object k i₀ i = length object - i
 
 -- the part behind, or the floor
-next-is : (c : tie.Joined1 invariant-loop decreases-loop) → let a = c.before.before.before.before.args in c.if1.next ≡ get_or a.object.now (c.before.before.loop.i + 1) a.floor
+next-is : (c : tie.Joined-i-k invariant-loop decreases-loop) → let a = c.args in c.if-i-k.next ≡ get_or a.object.now (c.loop-i.i + 1) a.floor
 next-is c =
     let l = c.before.before in
-    let a = l.before.before.args in
-    ⊎_elim (λ w. w.3 ∙ w.2.ensures ∙ get_d_default a.object.now (l.loop.i + 1) 0 a.floor (omega (arith, w.0.taken)))
-    (λ w. w.1 ∙ sym (get_or-eq_default a.object.now a.floor (omega (arith, w.0.left)))) c.if1.branch
+    let a = l.args in
+    ⊎_elim (λ w. w.3 ∙ w.2.ensures ∙ get_d_default a.object.now (l.loop-i.i + 1) 0 a.floor (omega (arith, w.0.taken)))
+    (λ w. w.1 ∙ sym (get_or-eq_default a.object.now a.floor (omega (arith, w.0.left)))) c.if-i-k.branch
 
-loop-again : tie.Need-loop-preserved invariant-loop decreases-loop
+loop-again : tie.Need-loop-i-preserved invariant-loop decreases-loop
 loop-again c =
     let l = c.before.before.before.before.before in
-    let a = l.before.before.args in
-    let here = get_d_default a.object.now l.loop.i 0 a.floor (omega arith) in
+    let a = l.args in
+    let here = get_d_default a.object.now l.loop-i.i 0 a.floor (omega arith) in
     let next = next-is c.before.before.before in
-    (omega arith, below_more _ _ (λ j h pos. omega (arith, l.loop.invariant.1 j h pos)) (λ pos. omega arith))
+    (omega arith, below_more _ _ (λ j h pos. omega (arith, l.loop-i.invariant.1 j h pos)) (λ pos. omega arith))
 
-returns-2 : tie.Need-returns-2 invariant-loop decreases-loop
+returns-2 : tie.Need-returns invariant-loop decreases-loop
 returns-2 c =
     let l = c.before in
-    let a = l.before.before.args in
-    let floor = get_or-eq_default a.object.now a.floor {n = l.loop.i} (omega arith) in
+    let a = l.args in
+    let floor = get_or-eq_default a.object.now a.floor {n = l.loop-i.i} (omega arith) in
     let floor' = get_or-eq_default a.object.now a.floor {n = length a.object.now} (omega arith) in
-    record { within = omega arith; passed = λ j h pos. omega (arith, l.loop.invariant.1 j (omega arith) pos); found = λ h. absurd (omega arith) }
+    record { within = omega arith; passed = λ j h pos. omega (arith, l.loop-i.invariant.1 j (omega arith) pos); found = λ h. absurd (omega arith) }
 
 pub part_to_lower_spec : {M : Type 1} → statement M
 part_to_lower_spec =
@@ -54,7 +54,7 @@ part_to_lower_spec =
     (λ c κs. search rules)
     (λ c. search rules)
     (λ c κs. search rules)
-    (λ c. record { within = omega arith; passed = c.before.before.before.before.before.loop.invariant.1; found = λ h. (omega arith, omega (arith, next-is c.before.before.before)) })
+    (λ c. record { within = omega arith; passed = c.loop-i.invariant.1; found = λ h. (omega arith, omega (arith, next-is c.before.before.before)) })
     (λ c. search rules)
     (λ c. search rules)
     loop-again

@@ -14,10 +14,10 @@ use Rattle.basics.proofs.Totals.{total_take_more, total_split, total_end}
 use Rattle.integer_partitions.proofs.search.part_to_raise.Statement.{statement}
 use Rattle.integer_partitions.proofs.search.part_to_raise.Tie as tie
 
-abbrev invariant-loop : tie.invariant-loop
+abbrev invariant-loop : tie.invariant-loop-i
 invariant-loop object s₀ i₀ s i = (i ≤ length object) × (s ≡ total (take i object)) × ((j : ℕ) → j < i → total (take j object) ≤ j * (get_or object j 0 + 1))
 
-abbrev decreases-loop : tie.decreases-loop
+abbrev decreases-loop : tie.decreases-loop-i
 decreases-loop object s₀ i₀ s i = length object - i
 
 mul-if1 : tie.Need-overflow-mul-if1 invariant-loop decreases-loop
@@ -27,8 +27,8 @@ mul-if1 c =
     omega (arith, mul-le-mul most byte)
 
 -- one part more
-more : (c : tie.After-wide invariant-loop decreases-loop) → let x = c.before.before.before.before.before.args.object.now in let i = c.before.before.before.loop.i in total (take (i + 1) x) ≡ total (take i x) + get_or x i 0
-more c = total_take_more c.before.before.before.before.before.args.object.now c.before.before.before.loop.i (omega arith)
+more : (c : tie.After-wide-p invariant-loop decreases-loop) → let x = c.args.object.now in let i = c.loop-i.i in total (take (i + 1) x) ≡ total (take i x) + get_or x i 0
+more c = total_take_more c.args.object.now c.loop-i.i (omega arith)
 
 pub part_to_raise_spec : {M : Type 1} → statement M
 part_to_raise_spec =
@@ -39,11 +39,11 @@ part_to_raise_spec =
     (λ c. (omega arith, sym (total_end [] 0 (omega arith)), λ j l. absurd (omega arith)))
     (λ c. search rules)
     (λ c κs. search rules)
-    (λ c. omega (arith, c.before.shared-slice-known2.given c.before.before.before.loop.i))
+    (λ c. omega (arith, c.shared_slice_known-in-loop-i-1.given c.loop-i.i))
     mul-if1
-    (λ c. record { within = omega arith; passed = c.before.before.before.before.loop.invariant.2; found = λ h. rw (← c.before.wide.ensures) (omega arith) })
-    (λ c. let l = c.before.before.before.before in omega (arith, more c.before, total_split l.before.before.args.object.now (l.loop.i + 1)))
+    (λ c. record { within = omega arith; passed = c.loop-i.invariant.2; found = λ h. rw (← c.wide-p.ensures) (omega arith) })
+    (λ c. let l = c.before.before.before.before in omega (arith, more c.before, total_split l.args.object.now (l.loop-i.i + 1)))
     (λ c. search rules)
     (λ c. search rules)
-    (λ c. (omega arith, omega (arith, more c.before), below_more _ _ c.before.before.before.before.loop.invariant.2 (rw (← c.before.wide.ensures) (omega arith))))
-    (λ c. record { within = omega arith; passed = c.before.loop.invariant.2; found = λ h. absurd (omega arith) }))
+    (λ c. (omega arith, omega (arith, more c.before), below_more _ _ c.loop-i.invariant.2 (rw (← c.wide-p.ensures) (omega arith))))
+    (λ c. record { within = omega arith; passed = c.loop-i.invariant.2; found = λ h. absurd (omega arith) }))

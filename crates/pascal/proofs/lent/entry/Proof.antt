@@ -10,15 +10,19 @@ use Rattle.numbers.proofs.TriangleIndex.{place-le}
 use Rattle.pascal.proofs.lent.entry.Statement.{statement}
 use Rattle.pascal.proofs.lent.entry.Tie as tie
 
-inside : (c : tie.After-place) → c.place.result < 2346
+inside : (c : tie.After-place-at) → c.place-at.result < 2346
 inside c =
-    let a = c.before.args in
-    omega (arith, c.place.ensures, place-le a.n 67 a.k c.before.requires.0.0 c.before.requires.0.1)
+    let a = c.args in
+    omega (arith, c.place-at.ensures, place-le a.n 67 a.k c.requires.n_le_last_row.0 c.requires.n_le_last_row.1)
 
 returns : tie.Need-returns
 returns c =
-    let a = c.before.before.args in
-    ap (λ (i : ℕ). get_or a.table.now i 0) c.before.place.ensures ∙ c.before.before.requires.1.there a.n a.k (omega arith) (omega arith)
+    let a = c.args in
+    ap (λ (i : ℕ). get_or a.table.now i 0) c.place-at.ensures ∙ c.requires.triangle.there a.n a.k (omega arith) (omega arith)
 
 pub entry_spec : {M : Type 1} → statement M
-entry_spec = tie.close (tie.spec (λ c κs. search rules) (λ c. scaled_Fits c.place.result 2346 8 (inside c) (lit< tt)) (λ c. inside c) returns)
+entry_spec = tie.close (tie.spec
+    (λ c κs. search rules)
+    (λ c. scaled_Fits c.place-at.result 2346 8 (inside c) (lit< tt))
+    (λ c. inside c.before)
+    returns)

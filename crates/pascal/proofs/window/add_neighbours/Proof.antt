@@ -29,10 +29,10 @@ turn {w₀} {w} {i} p lt =
       rest = stored_above w w₀ i _ p.rest;
     }
 
-abbrev invariant-loop : tie.invariant-loop
+abbrev invariant-loop : tie.invariant-loop-i
 invariant-loop w₀ m i₀ w i = (i ≤ m) × Part w₀ w i
 
-abbrev decreases-loop : tie.decreases-loop
+abbrev decreases-loop : tie.decreases-loop-i
 decreases-loop w₀ m i₀ w i = m - i
 
 add-w-2 : tie.Need-overflow-add-w-2 invariant-loop decreases-loop
@@ -57,6 +57,6 @@ add_neighbours_spec =
     (λ c. omega arith)
     (λ c. omega arith)
     (λ c. omega arith)
-    (λ c. (omega arith, turn c.before.before.before.loop.invariant.1 (omega arith)))
-    (λ c. c.before.loop.invariant.1.same)
-    (λ c. record { same = c.before.loop.invariant.1.same; sums = λ i h. c.before.loop.invariant.1.sums i (omega arith) }))
+    (λ c. (omega arith, turn c.loop-i.invariant.1 (omega arith)))
+    (λ c. c.loop-i.invariant.1.same)
+    (λ c. record { same = c.loop-i.invariant.1.same; sums = λ i h. c.loop-i.invariant.1.sums i (omega arith) }))

@@ -12,7 +12,7 @@ pub before_place_spec : {M : Type 1} → statement M
 before_place_spec =
     tie.close
     (tie.spec
-    (λ c. sym (back-before last_row _ _ c.if1.true))
-    (λ c. sym (back-within last_row _ _ c.before.if1.false ∙ choose-none last_row _ c.if2.true))
-    (λ c κs. search rules)
-    (λ c. c.entry.ensures ∙ sym (back-within last_row _ _ c.before.before.if1.false)))
+    (λ c. sym (back-before last_row _ _ c.if-k-i.true))
+    (λ c. sym (back-within last_row _ _ c.if-k-i.false ∙ choose-none last_row _ c.if-at-gt-LAST_ROW.true))
+    (λ c κs.record { n_le_last_row = search rules; triangle = search rules })
+    (λ c. c.entry.ensures ∙ sym (back-within last_row _ _ c.if-k-i.false)))

@@ -39,10 +39,10 @@ done : {n k left : ℕ} {w : List ℕ} → Reached n k w left → left ≤ 0 →
 unfolding back
 done {k = k} c end = c.entries 0 (omega arith) ∙ ap (λ r. choose r k) (omega arith)
 
-abbrev invariant-loop : tie.invariant-loop
+abbrev invariant-loop : tie.invariant-loop-left
 invariant-loop table n k w₀ left₀ w left = Reached n k w left
 
-abbrev decreases-loop : tie.decreases-loop
+abbrev decreases-loop : tie.decreases-loop-left
 decreases-loop table n k w₀ left₀ w left = left
 
 pub climb_spec : {M : Type 1} → statement M
@@ -51,13 +51,13 @@ climb_spec =
     (tie.spec
     invariant-loop
     decreases-loop
-    (λ c κs. c.requires.0)
+    (λ c κs. c.requires.triangle)
     (λ c. omega arith)
-    (λ c. record { row = last_row; from = omega arith; up_to = omega arith; long = search rules; entries = λ i h. c.last_row.ensures i (omega arith) })
+    (λ c. record { row = last_row; from = omega arith; up_to = omega arith; long = search rules; entries = λ i h. c.last_row-w.ensures i (omega arith) })
     (λ c. omega arith)
-    (λ c κs. (omega arith, small c.before.before.loop.invariant c.before.before.before.before.requires.1.1.1))
+    (λ c κs.record { m_in_bounds = omega arith; by_index = small c.loop-left.invariant c.requires.last_row_le_n.1.1 })
     (λ c. omega arith)
     (λ c. omega arith)
-    (λ c. turn c.before.before.before.before.loop.invariant c.before.before.before.loop-test.true c.before.add-neighbours.ensures)
+    (λ c. turn c.loop-left.invariant c.loop-left-test.true c.add_neighbours.ensures)
     (λ c. omega arith)
-    (λ c. done c.before.loop.invariant c.loop-test.false))
+    (λ c. done c.loop-left.invariant c.loop-left-test.false))

@@ -10,5 +10,5 @@ pub key_of_spec : {M : Type 1} → statement M
 key_of_spec =
     tie.close
     (tie.spec
-    (λ c. let a = c.before.args in sym (key_new a.used a.b (omega arith)))
-    (λ c. let a = c.before.args in sym (key_old a.used a.b (omega arith))))
+    (λ c. let a = c.args in sym (key_new a.used a.b (omega arith)))
+    (λ c. let a = c.args in sym (key_old a.used a.b (omega arith))))

@@ -14,24 +14,24 @@ use Rattle.set_partition_ranks.proofs.KeyReading.{key_stored, all_stored}
 use Rattle.set_partition_ranks.proofs.keys.keys_of.Statement.{statement}
 use Rattle.set_partition_ranks.proofs.keys.keys_of.Tie as tie
 
-abbrev invariant-loop : tie.invariant-loop
+abbrev invariant-loop : tie.invariant-loop-i
 invariant-loop object keys₀ used₀ i₀ keys used i = (i ≤ length object) × ((places ≡ length keys) × (keys_in 0 object ≡ take i keys ++ keys_in used (drop i object)))
 
-abbrev decreases-loop : tie.decreases-loop
+abbrev decreases-loop : tie.decreases-loop-i
 decreases-loop object keys₀ used₀ i₀ keys used i = length object - i
 
-loop-again : tie.Need-loop-preserved invariant-loop decreases-loop
+loop-again : tie.Need-loop-i-preserved invariant-loop decreases-loop
 loop-again c =
-    let x : Bytes = c.before.before.before.before.before.before.args.object.now in
-    let l = c.before.before.before.before.loop in
+    let x : Bytes = c.args.object.now in
+    let l = c.loop-i in
     let b : ℕ = get_or x l.i 0 in
-    let most : c.if1.used ≡ max l.used b = ⊎_elim (λ w. omega arith) (λ w. omega arith) c.if1.branch in
-    (omega arith, (simp length-set l.invariant.1.0, l.invariant.1.1 ∙ key_stored l.used l.i x l.keys (omega arith) (omega arith) ∙ rw (c.before.key_of.ensures, most)))
+    let most : c.if-used-b.used ≡ max l.used b = ⊎_elim (λ w. omega arith) (λ w. omega arith) c.if-used-b.branch in
+    (omega arith, (simp length-set l.invariant.1.0, l.invariant.1.1 ∙ key_stored l.used l.i x l.keys (omega arith) (omega arith) ∙ rw (c.key_of.ensures, most)))
 
 returns : tie.Need-returns invariant-loop decreases-loop
 returns c =
-    let l = c.before.loop in
-    (l.invariant.1.0, all_stored l.used l.i c.before.before.before.args.object.now l.keys (omega arith) ∙ sym l.invariant.1.1)
+    let l = c.loop-i in
+    (l.invariant.1.0, all_stored l.used l.i c.args.object.now l.keys (omega arith) ∙ sym l.invariant.1.1)
 
 pub keys_of_spec : {M : Type 1} → statement M
 keys_of_spec =

@@ -12,5 +12,5 @@ unfolding back_by
 back_by_spec =
     tie.close
     (tie.spec
-    (λ c. rw c.if1.true)
-    (λ c. let a = c.before.args in let e : a.key ≡ suc (a.key - 1) = omega (arith, c.if1.false) in rw e))
+    (λ c. rw c.if-key-eq0.true)
+    (λ c. let a = c.args in let e : a.key ≡ suc (a.key - 1) = omega (arith, c.if-key-eq0.false) in rw e))

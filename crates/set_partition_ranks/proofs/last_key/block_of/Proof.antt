@@ -15,5 +15,5 @@ block_of_spec =
     (tie.spec
     (λ c. search rules)
     (λ c. search rules)
-    (λ c. rw c.if1.true (omega (arith, c.before.requires.0)))
-    (λ c. let a = c.before.args in let e : a.key ≡ suc (a.key - 1) = omega (arith, c.if1.false) in rw e))
+    (λ c. rw c.if-key-eq0.true (omega (arith, c.requires.0)))
+    (λ c. let a = c.args in let e : a.key ≡ suc (a.key - 1) = omega (arith, c.if-key-eq0.false) in rw e))

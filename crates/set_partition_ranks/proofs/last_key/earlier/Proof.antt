@@ -10,39 +10,39 @@ use Rattle.set_partitions.proofs.KeyOrder.{edition_one, edition_two}
 use Rattle.set_partition_ranks.proofs.last_key.earlier.Statement.{statement}
 use Rattle.set_partition_ranks.proofs.last_key.earlier.Tie as tie
 
-alone_two : (c : tie.Then2) → let a = c.before.before.args in a.k * a.joined ≡ earlier_by (edition_of a.edition) a.k a.key a.alone a.joined
+alone_two : (c : tie.Then-key-eq0) → let a = c.args in a.k * a.joined ≡ earlier_by (edition_of a.edition) a.k a.key a.alone a.joined
 unfolding earlier_by
-alone_two c = rw (edition_two c.before.before.args.edition c.before.if1.true, c.if2.true)
+alone_two c = rw (edition_two c.args.edition c.if-edition-eq2.true, c.if-key-eq0.true)
 
-joined-two : (c : tie.Else2) → let a = c.before.before.args in (a.key - 1) * a.joined ≡ earlier_by (edition_of a.edition) a.k a.key a.alone a.joined
+joined-two : (c : tie.Else-key-eq0) → let a = c.args in (a.key - 1) * a.joined ≡ earlier_by (edition_of a.edition) a.k a.key a.alone a.joined
 unfolding earlier_by
 joined-two c =
-    let a = c.before.before.args in
-    let b : a.key ≡ suc (a.key - 1) = omega (arith, c.if2.false) in
-    rw (edition_two a.edition c.before.if1.true) (subst (λ d. (a.key - 1) * a.joined ≡ earlier_by two a.k d a.alone a.joined) (sym b) refl)
+    let a = c.args in
+    let b : a.key ≡ suc (a.key - 1) = omega (arith, c.if-key-eq0.false) in
+    rw (edition_two a.edition c.if-edition-eq2.true) (subst (λ d. (a.key - 1) * a.joined ≡ earlier_by two a.k d a.alone a.joined) (sym b) refl)
 
-alone_one : (c : tie.Then3) → let a = c.before.before.args in 0 ≡ earlier_by (edition_of a.edition) a.k a.key a.alone a.joined
+alone_one : (c : tie.Then-key-eq0-2) → let a = c.args in 0 ≡ earlier_by (edition_of a.edition) a.k a.key a.alone a.joined
 unfolding earlier_by
-alone_one c = rw (edition_one c.before.before.args.edition c.before.if1.false, c.if3.true)
+alone_one c = rw (edition_one c.args.edition c.if-edition-eq2.false, c.if-key-eq0-2.true)
 
-joined-one : (c : tie.Else3) → let a = c.before.before.args in a.alone + (a.key - 1) * a.joined ≡ earlier_by (edition_of a.edition) a.k a.key a.alone a.joined
+joined-one : (c : tie.Else-key-eq0-2) → let a = c.args in a.alone + (a.key - 1) * a.joined ≡ earlier_by (edition_of a.edition) a.k a.key a.alone a.joined
 unfolding earlier_by
 joined-one c =
-    let a = c.before.before.args in
-    let b : a.key ≡ suc (a.key - 1) = omega (arith, c.if3.false) in
-    rw (edition_one a.edition c.before.if1.false) (subst (λ d. a.alone + (a.key - 1) * a.joined ≡ earlier_by one a.k d a.alone a.joined) (sym b) refl)
+    let a = c.args in
+    let b : a.key ≡ suc (a.key - 1) = omega (arith, c.if-key-eq0-2.false) in
+    rw (edition_one a.edition c.if-edition-eq2.false) (subst (λ d. a.alone + (a.key - 1) * a.joined ≡ earlier_by one a.k d a.alone a.joined) (sym b) refl)
 
 pub earlier_spec : {M : Type 1} → statement M
 earlier_spec =
     tie.close
     (tie.spec
-    (λ c. omega (arith, c.before.before.requires, alone_two c))
+    (λ c. omega (arith, c.requires, alone_two c))
     alone_two
     (λ c. search rules)
-    (λ c. omega (arith, c.before.before.requires, joined-two c))
+    (λ c. omega (arith, c.requires, joined-two c))
     joined-two
     alone_one
     (λ c. search rules)
-    (λ c. omega (arith, c.before.before.requires, joined-one c))
-    (λ c. omega (arith, c.before.before.requires, joined-one c))
+    (λ c. omega (arith, c.requires, joined-one c))
+    (λ c. omega (arith, c.requires, joined-one c))
     joined-one)

@@ -14,5 +14,5 @@ others_in_spec =
     tie.close
     (tie.spec
     (λ c. search rules)
-    (λ c. rw c.if1.true)
-    (λ c. let a = c.before.args in let e : a.key ≡ suc (a.key - 1) = omega (arith, c.if1.false) in rw e (omega (arith, c.before.requires))))
+    (λ c. rw c.if-key-eq0.true)
+    (λ c. let a = c.args in let e : a.key ≡ suc (a.key - 1) = omega (arith, c.if-key-eq0.false) in rw e (omega (arith, c.requires))))

@@ -14,15 +14,15 @@ use Rattle.set_partitions.proofs.ends.open_early.Tie as tie
 returns : tie.Need-returns
 returns c =
     let s = c.before.before.before.before.before.before.before.before.before in
-    both_filled (range 1) (λ n. replicate n s.args.b) (length-range 1) s.args.k s.args.object.now c.before.before.before.before.before.before.fill-up.new.0 c.before.before.fill-with.new.0 s.requires.1 c.before.before.before.before.before.before.fill-up.ensures c.before.before.fill-with.ensures
+    both_filled (range 1) (λ n. replicate n s.args.b) (length-range 1) s.args.k s.args.object.now c.fill_up.new.part c.fill_with.new.part s.requires.1 c.fill_up.ensures c.fill_with.ensures
 
 pub open_early_spec : {M : Type 1} → statement M
 open_early_spec =
     tie.close
     (tie.spec
     (λ c. search rules)
-    (λ c. let a = c.before.before.args in sym (length-take-le a.k a.object.now c.before.before.requires.1))
-    (λ c κs. let a = c.before.before.args in rw length-take (omega (arith, c.before.before.requires)))
+    (λ c. let a = c.args in sym (length-take-le a.k a.object.now c.requires.1))
+    (λ c κs. let a = c.args in rw length-take (omega (arith, c.requires)))
     (λ c. search rules)
     (λ c. search rules)
     (λ c. search rules)

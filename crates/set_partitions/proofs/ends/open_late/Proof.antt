@@ -18,7 +18,7 @@ returns c =
     let d = s.args.object.now in
     let at = length d - s.args.k in
     let rest : length d - at ≡ s.args.k = omega (arith, s.requires.1) in
-    both_filled (λ n. replicate n 1) (range 1) (λ n. length-replicate n 1) at d c.before.before.before.before.before.before.fill-with.new.0 c.before.before.fill-up.new.0 (omega arith) c.before.before.before.before.before.before.fill-with.ensures c.before.before.fill-up.ensures
+    both_filled (λ n. replicate n 1) (range 1) (λ n. length-replicate n 1) at d c.fill_with.new.part c.fill_up.new.part (omega arith) c.fill_with.ensures c.fill_up.ensures
     ∙ ap (λ n. replicate at 1 ++ range 1 n) rest
 
 pub open_late_spec : {M : Type 1} → statement M
@@ -27,7 +27,7 @@ open_late_spec =
     (tie.spec
     (λ c. search rules)
     (λ c. search rules)
-    (λ c. let a = c.before.before.args in sym (length-take-le (length a.object.now - a.k) a.object.now (omega arith)))
+    (λ c. let a = c.args in sym (length-take-le (length a.object.now - a.k) a.object.now (omega arith)))
     (λ c κs. search rules)
     (λ c. search rules)
     (λ c. search rules)

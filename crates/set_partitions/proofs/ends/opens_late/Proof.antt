@@ -7,4 +7,6 @@ use Rattle.set_partitions.proofs.ends.opens_late.Tie as tie
 
 pub opens_late_spec : {M : Type 1} → statement M
 unfolding opens_late
-opens_late_spec = tie.close (tie.spec (λ c. rw (edition_two c.before.args.edition c.if1.true)) (λ c. rw (edition_one c.before.args.edition c.if1.false)))
+opens_late_spec = tie.close (tie.spec
+    (λ c. rw (edition_two c.args.edition c.if-edition-eq2.true))
+    (λ c. rw (edition_one c.args.edition c.if-edition-eq2.false)))

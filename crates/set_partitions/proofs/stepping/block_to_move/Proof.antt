@@ -20,10 +20,10 @@ abbrev Passed : Bool → Bool → Bytes → ℕ → ℕ → Type 0
 Passed late up x used i = (i ≤ length x) × ((used ≡ used_before x i) × ((j : ℕ) → j < i → moves_at late up x j ≡ false))
 
 -- where there is no model, nothing is read
-abbrev invariant-loop : tie.invariant-loop
+abbrev invariant-loop : tie.invariant-loop-i
 invariant-loop late up object used₀ i₀ used i = (1 ≤ i) × (0 < length object → Passed late up object used i)
 
-abbrev decreases-loop : tie.decreases-loop
+abbrev decreases-loop : tie.decreases-loop-i
 decreases-loop late up object used₀ i₀ used i = length object - i
 
 -- the first model is in block 1
@@ -37,59 +37,59 @@ first-passed late up x some e = (some, (rw e (omega arith), first))
 
 -- in the loop there is a model, and what the tests answered
 
-inside : (c : tie.In-loop invariant-loop decreases-loop) → let a = c.before.before.before.args in Passed a.late a.up a.object.now c.before.loop.used c.before.loop.i
-inside c = c.before.loop.invariant.1 (omega arith)
+inside : (c : tie.In-loop-i invariant-loop decreases-loop) → let a = c.args in Passed a.late a.up a.object.now c.loop-i.used c.loop-i.i
+inside c = c.loop-i.invariant.1 (omega arith)
 
-new_answered : (c : tie.After-leaves-new invariant-loop decreases-loop) → let a = c.before.before.before.before.before.before.args in moves_at a.late a.up a.object.now c.before.before.before.before.loop.i ≡ c.leaves-new.result
+new_answered : (c : tie.After-leaves_new invariant-loop decreases-loop) → let a = c.args in moves_at a.late a.up a.object.now c.loop-i.i ≡ c.leaves_new.result
 unfolding moves
 new_answered c =
-    let l = c.before.before.before.before.loop in
-    rw (← (inside c.before.before.before).1.0, lt-ltb l.used _ c.before.if1.true) (sym c.leaves-new.ensures)
+    let l = c.loop-i in
+    rw (← (inside c.before.before.before).1.0, lt-ltb l.used _ c.if-used-b.true) (sym c.leaves_new.ensures)
 
-old_answered : (c : tie.After-leaves-block invariant-loop decreases-loop) → let a = c.before.before.before.before.before.before.args in moves_at a.late a.up a.object.now c.before.before.before.before.loop.i ≡ c.leaves-block.result
+old_answered : (c : tie.After-leaves_block invariant-loop decreases-loop) → let a = c.args in moves_at a.late a.up a.object.now c.loop-i.i ≡ c.leaves_block.result
 unfolding moves
 old_answered c =
-    let l = c.before.before.before.before.loop in
-    rw (← (inside c.before.before.before).1.0, le-ltb l.used _ c.before.if1.false) (sym c.leaves-block.ensures)
+    let l = c.loop-i in
+    rw (← (inside c.before.before.before).1.0, le-ltb l.used _ c.if-used-b.false) (sym c.leaves_block.ensures)
 
-loop-holds : tie.Need-loop-init invariant-loop decreases-loop
+loop-holds : tie.Need-loop-i-init invariant-loop decreases-loop
 loop-holds c = let s = c.before in (omega arith, λ some. first-passed s.args.late s.args.up s.args.object.now some (s.requires some))
 
-returns : tie.Need-returns invariant-loop decreases-loop
+returns : tie.Need-returns-then-leaves_new invariant-loop decreases-loop
 returns c =
     let p = inside c.before.before.before.before in
-    record { inside = omega arith; passed = p.1.1; found = new_answered c.before ∙ c.if2.true; used = p.1.0 }
+    record { inside = omega arith; passed = p.1.1; found = new_answered c.before ∙ c.if-leaves_new.true; used = p.1.0 }
 
-returns-2 : tie.Need-returns-2 invariant-loop decreases-loop
+returns-2 : tie.Need-returns-then-leaves_block invariant-loop decreases-loop
 returns-2 c =
     let p = inside c.before.before.before.before in
-    record { inside = omega arith; passed = p.1.1; found = old_answered c.before ∙ c.if3.true; used = p.1.0 }
+    record { inside = omega arith; passed = p.1.1; found = old_answered c.before ∙ c.if-leaves_block.true; used = p.1.0 }
 
 -- one more is passed
 one_more : (late up : Bool) (x : Bytes) (u v i : ℕ) → Passed late up x u i → i < length x → v ≡ max u (get_or x i 0) → moves_at late up x i ≡ false → Passed late up x v (i + 1)
 unfolding used_before
 one_more late up x u v i p here most stays = (omega arith, (rw (add-one, ← p.1.0) most, below_more _ _ p.1.1 stays))
 
-loop-again : tie.Need-loop-preserved invariant-loop decreases-loop
+loop-again : tie.Need-loop-i-preserved invariant-loop decreases-loop
 loop-again c =
-    let a = c.before.before.before.before.before.args in
+    let a = c.args in
     let x : Bytes = a.object.now in
-    let l = c.before.before.before.loop in
+    let l = c.loop-i in
     let p = inside c.before.before in (
       omega arith,
       λ some. ⊎_elim
           (λ w.
-          let kept : c.if1.used ≡ get_or x l.i 0 = w.3 in
-          one_more a.late a.up x l.used c.if1.used l.i p (omega arith) (omega (arith, w.0.taken)) (new_answered record { before = record { before = c.before; if1 = w.0 }; leaves-new = w.1 } ∙ w.2.left))
+          let kept : c.if-used-b.used ≡ get_or x l.i 0 = w.3 in
+          one_more a.late a.up x l.used c.if-used-b.used l.i p (omega arith) (omega (arith, w.0.taken)) (new_answered record { before = record { before = c.before; if1 = w.0 }; leaves-new = w.1 } ∙ w.2.left))
           (λ w.
-          let kept : c.if1.used ≡ l.used = w.3 in
-          one_more a.late a.up x l.used c.if1.used l.i p (omega arith) (omega (arith, w.0.left)) (old_answered record { before = record { before = c.before; if1 = w.0 }; leaves-block = w.1 } ∙ w.2.left))
-          c.if1.branch,
+          let kept : c.if-used-b.used ≡ l.used = w.3 in
+          one_more a.late a.up x l.used c.if-used-b.used l.i p (omega arith) (omega (arith, w.0.left)) (old_answered record { before = record { before = c.before; if1 = w.0 }; leaves-block = w.1 } ∙ w.2.left))
+          c.if-used-b.branch,
     )
 
-returns-3 : tie.Need-returns-3 invariant-loop decreases-loop
+returns-3 : tie.Need-returns invariant-loop decreases-loop
 returns-3 c =
-    let l = c.before.loop in
+    let l = c.loop-i in
     λ j h. (l.invariant.1 (omega arith)).1.1 j (omega arith)
 
 pub block_to_move_spec : {M : Type 1} → statement M

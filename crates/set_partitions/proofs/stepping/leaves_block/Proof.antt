@@ -5,4 +5,7 @@ use Rattle.set_partitions.proofs.stepping.leaves_block.Statement.{statement}
 use Rattle.set_partitions.proofs.stepping.leaves_block.Tie as tie
 
 pub leaves_block_spec : {M : Type 1} → statement M
-leaves_block_spec = tie.close (tie.spec (λ c. rw c.if1.true) (λ c κs. search rules) (λ c. rw (c.before.if1.false, c.rest-block.ensures)))
+leaves_block_spec = tie.close (tie.spec
+    (λ c. rw c.if-late.true)
+    (λ c κs. search rules)
+    (λ c. rw (c.if-late.false, c.rest_block.ensures)))

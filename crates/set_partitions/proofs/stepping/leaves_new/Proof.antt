@@ -4,4 +4,6 @@ use Rattle.set_partitions.proofs.stepping.leaves_new.Statement.{statement}
 use Rattle.set_partitions.proofs.stepping.leaves_new.Tie as tie
 
 pub leaves_new_spec : {M : Type 1} → statement M
-leaves_new_spec = tie.close (tie.spec (λ c. rw c.if1.true) (λ c. rw c.if1.false))
+leaves_new_spec = tie.close (tie.spec
+    (λ c. rw c.if-not-late.true-raw)
+    (λ c. rw c.if-not-late.false-raw))

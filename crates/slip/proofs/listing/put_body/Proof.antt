@@ -13,20 +13,19 @@ use Rattle.families.proofs.Going.{Told, length-known, length-not_refused}
 use Rattle.slip.proofs.listing.put_body.Statement.{statement}
 use Rattle.slip.proofs.listing.put_body.Tie as tie
 
-returns : tie.Need-returns
+returns : tie.Need-returns-in_default
 returns c =
-    let a = c.before.before.before.before.args in
-    absurd (length-not_refused a.f (lent (map (λ x. x.now) a.lists)) c.before.before.before.before.requires.1 (rw c.enum_told.given.1 at c.before.before.object-length.ensures))
+    let a = c.args in
+    absurd (length-not_refused a.f (lent (map (λ x. x.now) a.lists)) c.requires.lists_value (rw c.in_default.is at c.object_length.ensures))
 
 -- the length that was told
-told : (c : tie.After-known-told) → Told c.before.before.before.before.before.args.f (lent (map (λ x. x.now) c.before.before.before.before.before.args.lists)) c.before.size.given.0.0
-told c = let a = c.before.before.before.before.before.args in length-known a.f (lent (map (λ x. x.now) a.lists)) (rw c.before.size.given.1 at c.before.before.before.object-length.ensures)
+told : (c : tie.In-Bytes) → Told c.args.f (lent (map (λ x. x.now) c.args.lists)) c.in-Bytes.size
+told c = let a = c.args in length-known a.f (lent (map (λ x. x.now) a.lists)) (rw c.in-Bytes.is at c.object_length.ensures)
 
-put-listing-requires : tie.Need-put-listing-requires
+put-listing-requires : tie.Need-put_listing-requires
 put-listing-requires c κs =
-    let n = c.before.before.before.size.given.0.0 in
-    let e : length (take n (replicate {A = ℕ} longest_object 0)) ≡ n = length-take-le n (replicate {A = ℕ} longest_object 0) (told c.before.before).within in
-    (search rules, (rw e (told c.before.before).within, (e ∙ (told c.before.before).long, (told c.before.before).admitted)))
+    let n = c.in-Bytes.size in
+    let e : length (take n (replicate {A = ℕ} longest_object 0)) ≡ n = length-take-le n (replicate {A = ℕ} longest_object 0) (told c.before.before).within in record { longest_body_in_bounds = search rules; object_len_bound = rw e (told c.before.before).within; object_len = e ∙ (told c.before.before).long; lists_value = (told c.before.before).admitted }
 
 pub put_body_spec : {M : Type 1} → statement M
 put_body_spec =
@@ -37,7 +36,7 @@ put_body_spec =
     (λ c. search rules)
     returns
     (λ c. omega (arith, (told c.before).within))
-    (λ c. sym (length-take-le c.before.before.before.size.given.0.0 (replicate {A = ℕ} longest_object 0) (told c.before.before).within))
+    (λ c. sym (length-take-le c.in-Bytes.size (replicate {A = ℕ} longest_object 0) (told c.before.before).within))
     put-listing-requires
     (λ c. search rules)
     (λ c. search rules))

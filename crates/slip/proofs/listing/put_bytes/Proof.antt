@@ -15,28 +15,27 @@ use Rattle.columns.proofs.Writes.{wrote_nothing, then}
 use Rattle.slip.proofs.listing.put_bytes.Statement.{statement}
 use Rattle.slip.proofs.listing.put_bytes.Tie as tie
 
-abbrev invariant-loop : tie.invariant-loop
+abbrev invariant-loop : tie.invariant-loop-i
 invariant-loop out₀ at object end₀ i₀ out end i =
     (i ≤ length object) × ((length out ≡ length out₀) × ((end ≡ at + field_width * i) × Wrote out₀ at out end (flat_map (column field_width) (take i object))))
 
-abbrev decreases-loop : tie.decreases-loop
+abbrev decreases-loop : tie.decreases-loop-i
 decreases-loop out₀ at object end₀ i₀ out end i = length object - i
 
-loop-holds : tie.Need-loop-init invariant-loop decreases-loop
+loop-holds : tie.Need-loop-i-init invariant-loop decreases-loop
 unfolding flat_map
 loop-holds c = (omega arith, (refl, (omega arith, wrote_nothing _ _)))
 
-loop-again : tie.Need-loop-preserved invariant-loop decreases-loop
+loop-again : tie.Need-loop-i-preserved invariant-loop decreases-loop
 loop-again c =
-    let l = c.before.before.before.before.before.before.loop in
-    let x = c.before.before.before.before.before.before.before.before.before.args.object.now in
-    (omega arith, (search rules, (omega arith, rw (bytes-more (column field_width) x l.i (omega arith)) (then l.invariant.1.1.1 c.before.before.put-column.ensures.1))))
+    let l = c.loop-i in
+    let x = c.args.object.now in
+    (omega arith, (search rules, (omega arith, rw (bytes-more (column field_width) x l.i (omega arith)) (then l.invariant.1.1.1 c.put_column-end.ensures.wrote))))
 
 returns : tie.Need-returns invariant-loop decreases-loop
 returns c =
-    let l = c.before.loop in
-    let x = c.before.before.before.before.args.object.now in
-    (omega arith, rw (take_all l.i x (omega arith)) at l.invariant.1.1.1)
+    let l = c.loop-i in
+    let x = c.args.object.now in record { value = omega arith; wrote = rw (take_all l.i x (omega arith)) at l.invariant.1.1.1 }
 
 pub put_bytes_spec : {M : Type 1} → statement M
 put_bytes_spec =
@@ -46,7 +45,7 @@ put_bytes_spec =
     decreases-loop
     loop-holds
     (λ c. search rules)
-    (λ c. omega (arith, c.shared-slice-known2.given c.before.before.before.loop.i))
+    (λ c. omega (arith, c.shared_slice_known-in-loop-i-1.given c.loop-i.i))
     (λ c κs. search rules)
     (λ c. search rules)
     (λ c. search rules)

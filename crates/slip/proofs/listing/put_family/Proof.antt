@@ -10,9 +10,14 @@ use Rattle.slip.proofs.listing.put_family.Tie as tie
 
 returns : tie.Need-returns
 unfolding family_columns
-returns c = (omega arith, rw append_assoc at (then (then c.before.before.before.before.before.before.before.before.before.before.put-column.ensures.1 c.before.before.before.before.before.before.put-column2.ensures.1) c.before.before.put-column3.ensures.1))
+returns c =record { value = omega arith; wrote = rw append_assoc at (then (then c.put_column-kind.ensures.wrote c.put_column-n.ensures.wrote) c.put_column.ensures.wrote) }
 
 pub put_family_spec : {M : Type 1} → statement M
 put_family_spec =
     tie.close
-    (tie.spec (λ c κs. search rules) (λ c κs. search rules) (λ c κs. search rules) (λ c. search rules) returns)
+    (tie.spec
+    (λ c κs. search rules)
+    (λ c κs. search rules)
+    (λ c κs. search rules)
+    (λ c. search rules)
+    returns)

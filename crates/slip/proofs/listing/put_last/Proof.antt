@@ -6,19 +6,19 @@ use borrow.Author.Rules.{rules}
 use Rattle.slip.proofs.listing.put_last.Statement.{statement}
 use Rattle.slip.proofs.listing.put_last.Tie as tie
 
-returns : tie.Need-returns
+returns : tie.Need-returns-then-more
 unfolding last_line
-returns c = rw c.before.before.before.before.before.before.before.before.before.if1.true (then c.before.before.before.before.before.before.put-justified.ensures.1 c.before.before.put_byte.ensures.1)
+returns c = rw c.if-more.true (then c.put_justified-end.ensures.wrote c.put_byte.ensures.wrote)
 
-returns-2 : tie.Need-returns-2
+returns-2 : tie.Need-returns
 unfolding last_line
-returns-2 c = rw c.before.before.before.before.before.before.before.before.before.if1.false (then c.before.before.before.before.before.before.put-justified2.ensures.1 c.before.before.put-byte2.ensures.1)
+returns-2 c = rw c.if-more.false (then c.put_justified-end-2.ensures.wrote c.put_byte-2.ensures.wrote)
 
 pub put_last_spec : {M : Type 1} → statement M
 put_last_spec =
     tie.close
     (tie.spec
-    (λ c. search rules)
+    (λ c.record { word_len_bound = search rules; width_in_bounds = search rules })
     (λ c κs. search rules)
     (λ c κs. search rules)
     (λ c. search rules)

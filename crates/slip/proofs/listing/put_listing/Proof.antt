@@ -9,16 +9,15 @@ use Rattle.slip.proofs.Lines.{nothing_listed}
 use Rattle.slip.proofs.listing.put_listing.Statement.{statement}
 use Rattle.slip.proofs.listing.put_listing.Tie as tie
 
-returns : tie.Need-returns
+returns : tie.Need-returns-in_default
 returns c =
-    let a = c.before.before.before.before.before.before.before.before.before.before.before.before.args in
+    let a = c.args in
     let b = lent (map (λ x. x.now) a.lists) in
-    nothing_listed a.start (listing a.f b) (starts_none a.f b a.object.now c.before.before.before.before.before.before.before.before.before.before.before.before.requires.1.1.1 c.before.before.before.before.before.before.before.before.before.before.before.before.requires.1.1.0 not_written (rw c.before.before.before.before.enum-told2.given.1 at c.before.before.before.before.before.before.before.before.first.ensures)) c.before.before.put_last.ensures
+    nothing_listed a.start (listing a.f b) (starts_none a.f b a.object.now c.requires.lists_value c.requires.object_len not_written (rw c.in_default.is at c.first.ensures)) c.put_last.ensures
 
-put-objects-requires : tie.Need-put-objects-requires
+put-objects-requires : tie.Need-put_objects-requires
 put-objects-requires c κs =
-    let a = c.before.before.before.before.before.before.before.before.before.before.args in
-    (search rules, (search rules, starts a.f (lent (map (λ x. x.now) a.lists)) a.object.now (rw c.before.before.enum_told.given.1 at c.before.before.before.before.before.before.first.ensures)))
+    let a = c.args in record { longest_body_in_bounds = search rules; object_len_bound = search rules; first = starts a.f (lent (map (λ x. x.now) a.lists)) a.object.now (rw c.in-Done.is at c.first.ensures) }
 
 pub put_listing_spec : {M : Type 1} → statement M
 put_listing_spec =

@@ -10,9 +10,14 @@ use Rattle.slip.proofs.listing.put_object.Tie as tie
 
 returns : tie.Need-returns
 unfolding object_line
-returns c = (omega arith, rw append_assoc at (then (then c.before.before.before.before.before.before.before.before.before.before.put-column.ensures.1 c.before.before.before.before.before.before.put-bytes.ensures.1) c.before.before.put_byte.ensures.1))
+returns c =record { value = omega arith; wrote = rw append_assoc at (then (then c.put_column-column.ensures.wrote c.put_bytes-end.ensures.wrote) c.put_byte.ensures.wrote) }
 
 pub put_object_spec : {M : Type 1} → statement M
 put_object_spec =
     tie.close
-    (tie.spec (λ c κs. search rules) (λ c κs. search rules) (λ c κs. search rules) (λ c. search rules) returns)
+    (tie.spec
+    (λ c κs. search rules)
+    (λ c κs. search rules)
+    (λ c κs. search rules)
+    (λ c. search rules)
+    returns)

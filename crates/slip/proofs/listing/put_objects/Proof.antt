@@ -21,7 +21,7 @@ use Rattle.slip.proofs.Lines.{line_written, ended, cut}
 use Rattle.slip.proofs.listing.put_objects.Statement.{statement}
 use Rattle.slip.proofs.listing.put_objects.Tie as tie
 
-abbrev invariant-loop : tie.invariant-loop
+abbrev invariant-loop : tie.invariant-loop-rank
 invariant-loop out₀ at start f lists object₀ end₀ rank₀ out object end rank =
     (rank ≤ listed_at_most)
     × ((length out ≡ length out₀)
@@ -29,39 +29,39 @@ invariant-loop out₀ at start f lists object₀ end₀ rank₀ out object end r
     × ((end ≤ at + object_line_width longest_object * rank)
     × (At (listing f (lent (map (λ x. x.now) lists))) object rank × Wrote out₀ at out end (object_lines start (take rank (listing f (lent (map (λ x. x.now) lists)))))))))
 
-abbrev decreases-loop : tie.decreases-loop
+abbrev decreases-loop : tie.decreases-loop-rank
 decreases-loop out₀ at start f lists object₀ end₀ rank₀ out object end rank = listed_at_most - rank
 
-loop-holds : tie.Need-loop-init invariant-loop decreases-loop
+loop-holds : tie.Need-loop-rank-init invariant-loop decreases-loop
 unfolding object_lines
-loop-holds c = (omega arith, (refl, (refl, (omega arith, (c.before.before.requires.1.1, wrote_nothing _ _)))))
+loop-holds c = (omega arith, (refl, (refl, (omega arith, (c.requires.first, wrote_nothing _ _)))))
 
 -- where the object was put before NEXT was asked, and the head of that turn
-abbrev put : tie.After-next invariant-loop decreases-loop → tie.After-put-object invariant-loop decreases-loop
+abbrev put : tie.After-next invariant-loop decreases-loop → tie.After-put_object-end invariant-loop decreases-loop
 put c = c.before.before.before.before
 
-abbrev head : tie.After-put-object invariant-loop decreases-loop → tie.At-loop invariant-loop decreases-loop
+abbrev head : tie.After-put_object-end invariant-loop decreases-loop → tie.At-loop-rank invariant-loop decreases-loop
 head c = c.before.before.before.before
 
-returns : tie.Need-returns invariant-loop decreases-loop
+returns : tie.Need-returns-in_default invariant-loop decreases-loop
 returns c =
-    let n = c.before.before.before.before.before.before.before in let p = put n in let l = (head p).loop in
-    let a = (head p).before.before.before.args in let s = listing a.f (lent (map (λ x. x.now) a.lists)) in let here = l.inv.1.1.1.1.0 in
-    let last = stops a.f (lent (map (λ x. x.now) a.lists)) l.rank here (not_moved n.next.result c.before.before.before.before.match.keys2) n.next.ensures in
-    ended a.start s (l.rank + 1) (line_written a.start s l.rank l.inv.1.1.1.1.1 here p.put-object.ensures.1) (omega arith) (omega arith) c.before.before.put_last.ensures
+    let n = c.before.before.before.before.before.before.before in let p = put n in let l = (head p).loop-rank in
+    let a = (head p).args in let s = listing a.f (lent (map (λ x. x.now) a.lists)) in let here = l.invariant.1.1.1.1.0 in
+    let last = stops a.f (lent (map (λ x. x.now) a.lists)) l.rank here (not_moved n.next.result c.in_default.in_default-own.keys2) n.next.ensures in
+    ended a.start s (l.rank + 1) (line_written a.start s l.rank l.invariant.1.1.1.1.1 here p.put_object-end.ensures.wrote) (omega arith) (omega arith) c.put_last.ensures
 
-loop-again : tie.Need-loop-preserved invariant-loop decreases-loop
+loop-again : tie.Need-loop-rank-preserved invariant-loop decreases-loop
 loop-again c =
-    let n = c.before.before.before.before in let p = put n in let l = (head p).loop in
-    let a = (head p).before.before.before.args in let s = listing a.f (lent (map (λ x. x.now) a.lists)) in let here = l.inv.1.1.1.1.0 in
-    let there = moves_on a.f (lent (map (λ x. x.now) a.lists)) l.rank here (rw c.enum_told.given.1 at n.next.ensures) in
-    (omega arith, (search rules, (search rules, (omega arith, (rw add-one there, line_written a.start s l.rank l.inv.1.1.1.1.1 here p.put-object.ensures.1)))))
+    let n = c.before.before.before in let p = put n in let l = (head p).loop-rank in
+    let a = (head p).args in let s = listing a.f (lent (map (λ x. x.now) a.lists)) in let here = l.invariant.1.1.1.1.0 in
+    let there = moves_on a.f (lent (map (λ x. x.now) a.lists)) l.rank here (rw c.in-Moved.is at n.next.ensures) in
+    (omega arith, (search rules, (search rules, (omega arith, (rw add-one there, line_written a.start s l.rank l.invariant.1.1.1.1.1 here p.put_object-end.ensures.wrote)))))
 
-returns-2 : tie.Need-returns-2 invariant-loop decreases-loop
+returns-2 : tie.Need-returns invariant-loop decreases-loop
 returns-2 c =
-    let h = c.before.before.before.before.before in let l = h.loop in
-    let a = h.before.before.before.args in let s = listing a.f (lent (map (λ x. x.now) a.lists)) in
-    cut a.start s l.rank l.invariant.1.1.1.1.1 (at_below s l.rank l.invariant.1.1.1.1.0) (omega arith) c.before.before.put-last2.ensures
+    let h = c.before.before.before.before.before in let l = h.loop-rank in
+    let a = h.args in let s = listing a.f (lent (map (λ x. x.now) a.lists)) in
+    cut a.start s l.rank l.invariant.1.1.1.1.1 (at_below s l.rank l.invariant.1.1.1.1.0) (omega arith) c.put_last-2.ensures
 
 pub put_objects_spec : {M : Type 1} → statement M
 put_objects_spec =

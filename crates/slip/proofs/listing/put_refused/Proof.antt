@@ -9,7 +9,7 @@ use Rattle.slip.proofs.listing.put_refused.Tie as tie
 
 returns : tie.Need-returns
 unfolding refused_text
-returns c = rw append_assoc at (then (then c.before.before.before.before.before.before.before.before.before.before.put_word.ensures.1 c.before.before.before.before.before.before.put-column.ensures.1) c.before.before.put_byte.ensures.1)
+returns c = rw append_assoc at (then (then c.put_word-word.ensures.wrote c.put_column-end.ensures.wrote) c.put_byte.ensures.wrote)
 
 pub put_refused_spec : {M : Type 1} → statement M
 put_refused_spec =

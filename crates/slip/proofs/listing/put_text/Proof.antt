@@ -12,17 +12,17 @@ use Rattle.slip.proofs.listing.put_text.Tie as tie
 abbrev lists : tie.After-count → Lent
 lists c = lent (map (λ x. x.now) c.before.before.args.lists)
 
-put-counted-requires : tie.Need-put-counted-requires
-put-counted-requires c κs = let e = c.before.before.before.before in (search rules, counted-allowed e.before.before.args.f (lists e) (rw c.before.before.n.given.1 at e.count.ensures))
+put-counted-requires : tie.Need-put_counted-requires
+put-counted-requires c κs = let e = c.before.before in record { largest_in_bounds = search rules; lists_value = counted-allowed e.args.f (lists e) (rw c.in-Objects.is at e.count.ensures) }
 
-put-uncounted-requires : tie.Need-put-uncounted-requires
-put-uncounted-requires c κs = let e = c.before.before.before.before in (search rules, λ q. many_allowed e.before.before.args.f (lists e) (rw q at (rw c.before.before.q.given.1 at e.count.ensures)))
+put-uncounted-requires : tie.Need-put_uncounted-requires
+put-uncounted-requires c κs = let e = c.before.before in record { largest_in_bounds = search rules; lists_value = λ q. many_allowed e.args.f (lists e) (rw q at (rw c.in-Refused.is at e.count.ensures)) }
 
-returns : tie.Need-returns
-returns c = let n = c.before.before.before.before.before in let e = n.before.before in rw (text_counted e.before.before.args.start e.before.before.args.f (lists e) (rw n.n.given.1 at e.count.ensures)) c.before.before.put-counted.ensures
+returns : tie.Need-returns-in-Objects
+returns c = let n = c.before.before.before.before in let e = n.before.before in rw (text_counted e.args.start e.args.f (lists e) (rw n.in-Objects.is at e.count.ensures)) c.put_counted.ensures
 
-returns-2 : tie.Need-returns-2
-returns-2 c = let q = c.before.before.before.before.before in let e = q.before.before in rw (text_refused e.before.before.args.start e.before.before.args.f (lists e) (rw q.q.given.1 at e.count.ensures)) c.before.before.put-uncounted.ensures
+returns-2 : tie.Need-returns-in-Refused
+returns-2 c = let q = c.before.before.before.before in let e = q.before.before in rw (text_refused e.args.start e.args.f (lists e) (rw q.in-Refused.is at e.count.ensures)) c.put_uncounted.ensures
 
 pub put_text_spec : {M : Type 1} → statement M
 put_text_spec =

@@ -11,7 +11,7 @@ use Rattle.slip.proofs.listing.put_uncounted.Statement.{statement}
 use Rattle.slip.proofs.listing.put_uncounted.Tie as tie
 
 -- where the first line is written, no refusal but MANY is left
-abbrev many : tie.After-put-byte → tie.Else1
+abbrev many : tie.After-put_byte-line → tie.Else-q-ne5
 many c = c.before.before.before.before.before.before.before.before.before.before.before
 
 pub put_uncounted_spec : {M : Type 1} → statement M
@@ -21,12 +21,12 @@ put_uncounted_spec =
     (tie.spec
     (λ c κs. search rules)
     (λ c. search rules)
-    (λ c. let t = c.before.before.before.before in rw (ne_eqb t.before.before.args.q 5 (λ e. omega arith)) c.before.before.Put-refused.ensures)
+    (λ c. let t = c.before.before.before.before in rw (ne_eqb t.args.q 5 (λ e. omega arith)) c.put_refused.ensures)
     (λ c κs. search rules)
-    (λ c. search rules)
+    (λ c.record { word_len_bound = search rules; width_in_bounds = search rules })
     (λ c κs. search rules)
-    (λ c κs. search rules)
-    (λ c κs. let e = many c.before.before.before in (search rules, e.before.before.pre.1 (omega arith)))
+    (λ c κs.record { longest_body_in_bounds = search rules; lists_value = search rules })
+    (λ c κs. let e = many c.before.before.before in (search rules, e.requires.lists_value (omega arith)))
     (λ c. search rules)
     (λ c.
     let line = c.before.before.before.before.before.before in

@@ -8,10 +8,10 @@ use borrow.Author.Count.{below_more}
 use Rattle.subsets.proofs.search.number_to_lower.Statement.{statement}
 use Rattle.subsets.proofs.search.number_to_lower.Tie as tie
 
-abbrev invariant-loop : tie.invariant-loop
+abbrev invariant-loop : tie.invariant-loop-i
 invariant-loop object i₀ i = (i ≤ length object) × ((j : ℕ) → j < i → get_or object j 0 ≤ suc j)
 
-abbrev decreases-loop : tie.decreases-loop
+abbrev decreases-loop : tie.decreases-loop-i
 decreases-loop object i₀ i = length object - i
 
 pub number_to_lower_spec : {M : Type 1} → statement M
@@ -23,9 +23,9 @@ number_to_lower_spec =
     (λ c. search rules)
     (λ c. search rules)
     (λ c. search rules)
-    (λ c. omega (arith, c.shared-slice-known.given c.before.before.loop.i))
+    (λ c. omega (arith, c.shared_slice_known-1.given c.loop-i.i))
+    (λ c.record { upper_bound = search rules; by_index = search rules; result_bound = search rules })
     (λ c. search rules)
     (λ c. search rules)
-    (λ c. search rules)
-    (λ c. (omega arith, below_more _ _ c.before.before.before.loop.invariant.1 (omega arith)))
-    (λ c. search rules))
+    (λ c. (omega arith, below_more _ _ c.loop-i.invariant.1 (omega arith)))
+    (λ c.record { upper_bound = search rules; by_index = search rules; result_bound = search rules }))

@@ -12,20 +12,20 @@ use Rattle.listings.proofs.Standing.{get_d_default}
 use Rattle.subsets.proofs.search.number_to_raise.Statement.{statement}
 use Rattle.subsets.proofs.search.number_to_raise.Tie as tie
 
-abbrev invariant-loop : tie.invariant-loop
+abbrev invariant-loop : tie.invariant-loop-i
 invariant-loop n object k i₀ i = (i ≤ length object) × ((j : ℕ) → j < i → get_or object (suc j) (suc n) ≤ suc (get_or object j 0))
 
-abbrev decreases-loop : tie.decreases-loop
+abbrev decreases-loop : tie.decreases-loop-i
 decreases-loop n object k i₀ i = length object - i
 
 -- the number behind place i, n + 1 behind the last
-following : (c : tie.Joined1 invariant-loop decreases-loop) → let a = c.before.before.before.before.args in c.if1.next ≡ get_or a.object.now (suc c.before.before.loop.i) (suc a.n)
+following : (c : tie.Joined-i-k invariant-loop decreases-loop) → let a = c.args in c.if-i-k.next ≡ get_or a.object.now (suc c.loop-i.i) (suc a.n)
 following c =
-    let a = c.before.before.before.before.args in
-    let i = c.before.before.loop.i in
+    let a = c.args in
+    let i = c.loop-i.i in
     ⊎_elim (λ w. w.3 ∙ w.2.ensures ∙ get_d_default a.object.now (i + 1) 0 (suc a.n) w.0.taken ∙ ap (λ j. get_or a.object.now j (suc a.n)) (add-one i))
     (λ w. w.1 ∙ add-one a.n ∙ sym (get_or-eq_default a.object.now (suc a.n) {n = suc i} (omega (arith, w.0.left))))
-    c.if1.branch
+    c.if-i-k.branch
 
 pub number_to_raise_spec : {M : Type 1} → statement M
 number_to_raise_spec =
@@ -41,9 +41,9 @@ number_to_raise_spec =
     (λ c. search rules)
     (λ c. search rules)
     (λ c κs. search rules)
-    (λ c. omega (arith, c.before.shared-slice-known3.given c.before.before.before.before.loop.i))
-    (λ c. let at = c.before.before.before.before.before.loop in (at.invariant.0, (at.invariant.1, λ h. omega (arith, following c.before.before.before))))
+    (λ c. omega (arith, c.shared_slice_known-in-loop-i-1.given c.loop-i.i))
+    (λ c. let at = c.loop-i in record { upper_bound = at.invariant.0; by_index = at.invariant.1; result_bound = λ h. omega (arith, following c.before.before.before) })
     (λ c. omega arith)
     (λ c. omega arith)
-    (λ c. (omega arith, below_more _ _ c.before.before.before.before.before.loop.invariant.1 (omega (arith, following c.before.before.before))))
-    (λ c. (c.before.loop.invariant.0, (c.before.loop.invariant.1, λ h. absurd (omega arith)))))
+    (λ c. (omega arith, below_more _ _ c.loop-i.invariant.1 (omega (arith, following c.before.before.before))))
+    (λ c.record { upper_bound = c.loop-i.invariant.0; by_index = c.loop-i.invariant.1; result_bound = λ h. absurd (omega arith) }))

@@ -7,10 +7,10 @@ use lib.ListN.{length}
 use Rattle.test_calls.proofs.walks.walk.Statement.{statement}
 use Rattle.test_calls.proofs.walks.walk.Tie as tie
 
-abbrev invariant-loop : tie.invariant-loop
+abbrev invariant-loop : tie.invariant-loop-met
 invariant-loop label letter f lists object₀ way limit sum₀ met₀ heard₀ object sum met heard = length object ≡ length object₀
 
-abbrev decreases-loop : tie.decreases-loop
+abbrev decreases-loop : tie.decreases-loop-met
 decreases-loop label letter f lists object₀ way limit sum₀ met₀ heard₀ object sum met heard = limit - met
 
 pub walk_spec : {M : Type 1} → statement M

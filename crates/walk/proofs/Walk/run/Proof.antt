@@ -13,20 +13,20 @@ use Rattle.walk.proofs.Runs.{Left, taken, none_taken, one_more, all_taken, room_
 use Rattle.walk.proofs.Walk.run.Statement.{statement}
 use Rattle.walk.proofs.Walk.run.Tie as tie
 
-abbrev invariant-loop : tie.invariant-loop
+abbrev invariant-loop : tie.invariant-loop-i
 invariant-loop lists on answers₀ walk₀ i₀ answers walk i =
     (length answers ≡ length answers₀) × ◌≡◌ {A = Left} (taken (lent (map (λ x. x.now) lists)) walk on answers i) (run_of walk₀ (lent (map (λ x. x.now) lists)) on answers₀)
 
-abbrev decreases-loop : tie.decreases-loop
+abbrev decreases-loop : tie.decreases-loop-i
 decreases-loop lists on answers₀ walk₀ i₀ answers walk i = length on - i
 
-loop-again : tie.Need-loop-preserved invariant-loop decreases-loop
+loop-again : tie.Need-loop-i-preserved invariant-loop decreases-loop
 loop-again c =
-    let l = c.before.before.before.before.before.before.before.loop in
-    let a = c.before.before.before.before.before.before.before.before.before.before.args in
+    let l = c.loop-i in
+    let a = c.args in
     let b = lent (map (λ x. x.now) a.lists) in
-    let went = rw c.before.before.before.Way-of.ensures at c.before.before.step.ensures in
-    (length-set l.answers l.i _ ∙ l.invariant.0, rw (add-one l.i) (one_more b l.walk a.on.now l.answers l.i c.before.before.before.before.before.before.loop-test.true (ltb-true _ _ c.before.before.before.before.before.if1.true) went c.before.stepped.ensures ∙ l.invariant.1))
+    let went = rw c.way_of.ensures at c.step-stride.ensures in
+    (length-set l.answers l.i _ ∙ l.invariant.0, rw (add-one l.i) (one_more b l.walk a.on.now l.answers l.i c.loop-i-test.true (ltb-true _ _ c.if-i-answers.true-raw) went c.stepped.ensures ∙ l.invariant.1))
 
 pub run_spec : {M : Type 1} → statement M
 run_spec =
@@ -44,6 +44,6 @@ run_spec =
     (λ c. search rules)
     loop-again
     (λ c. search rules)
-    (λ c. room_taken _ _ _ _ _ (ltb-false _ _ c.if1.false) ∙ c.before.before.loop.invariant.1)
+    (λ c. room_taken _ _ _ _ _ (ltb-false _ _ c.if-i-answers.false-raw) ∙ c.loop-i.invariant.1)
     (λ c. search rules)
-    (λ c. all_taken _ _ _ _ _ c.loop-test.false ∙ c.before.loop.invariant.1))
+    (λ c. all_taken _ _ _ _ _ c.loop-i-test.false ∙ c.loop-i.invariant.1))

@@ -10,22 +10,22 @@ use borrow.Author.Rules.{rules}
 use Rattle.walk.proofs.Walk.start.Statement.{statement}
 use Rattle.walk.proofs.Walk.start.Tie as tie
 
-returns : tie.Need-returns
+returns : tie.Need-returns-in_default
 unfolding walk_at
-returns c = refused_start _ _ _ (ap ranked_as c.enum_told.given.1) c.before.before.rank.ensures
+returns c = refused_start _ _ _ (ap ranked_as c.in_default.is) c.rank-answer.ensures
 
-slice-aggregate-copy : tie.Need-slice-aggregate-copy
+slice-aggregate-copy : tie.Need-slice_bounds-copy-end
 slice-aggregate-copy c =
-    let h = room _ _ _ (rw (ap ranked_as c.before.before.answer.given.1) at c.before.before.before.before.rank.ensures) in
+    let h = room _ _ _ (rw (ap ranked_as c.in-Rank.is) at c.rank-answer.ensures) in
     simp length-take (omega arith)
 
 copy-requires : tie.Need-copy-requires
 copy-requires c κs =
-    let h = room _ _ _ (rw (ap ranked_as c.before.before.answer.given.1) at c.before.before.before.before.rank.ensures) in
+    let h = room _ _ _ (rw (ap ranked_as c.in-Rank.is) at c.rank-answer.ensures) in
     simp length-take (omega arith)
 
-returns-2 : tie.Need-returns-2
-returns-2 c = object_copied _ _ _ c.before.copy.ensures (rw (ap ranked_as c.before.before.before.before.answer.given.1) at c.before.before.before.before.before.before.rank.ensures)
+returns-2 : tie.Need-returns
+returns-2 c = object_copied _ _ _ c.copy.ensures (rw (ap ranked_as c.in-Rank.is) at c.rank-answer.ensures)
 
 pub start_spec : {M : Type 1} → statement M
 start_spec =
@@ -35,7 +35,7 @@ start_spec =
     (λ c. search rules)
     (λ c. search rules)
     returns
-    (λ c. room _ _ _ (rw (ap ranked_as c.before.answer.given.1) at c.before.before.before.rank.ensures))
+    (λ c. room _ _ _ (rw (ap ranked_as c.in-Rank.is) at c.rank-answer.ensures))
     slice-aggregate-copy
     copy-requires
     returns-2)

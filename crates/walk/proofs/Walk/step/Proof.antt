@@ -10,30 +10,30 @@ use borrow.Author.Rules.{rules}
 use Rattle.walk.proofs.Walk.step.Statement.{statement}
 use Rattle.walk.proofs.Walk.step.Tie as tie
 
-array-borrow-prefix-bytes : tie.Need-array-borrow-prefix-bytes
+array-borrow-prefix-bytes : tie.Need-slice_bounds-bytes-end
 array-borrow-prefix-bytes c =
-    let w = c.before.before.before.args.self in
+    let w = c.args.self in
     let h : length w.bytes ≡ longest_object = search rules in
-    omega (arith, h, c.if1.false)
+    omega (arith, h, c.if-size.false)
 
-slice-aggregate-step-lent : tie.Need-slice-aggregate-step-lent
+slice-aggregate-step-lent : tie.Need-slice_bounds-step_lent-end
 slice-aggregate-step-lent c =
-    let w = c.before.before.before.before.args.self in
+    let w = c.args.self in
     let h : length w.bytes ≡ longest_object = search rules in
-    sym (length-take-le w.len w.bytes (omega (arith, h, c.before.if1.false)))
+    sym (length-take-le w.len w.bytes (omega (arith, h, c.if-size.false)))
 
-returns-2 : tie.Need-returns-2
+returns-2 : tie.Need-returns
 returns-2 c =
-    let w = c.before.before.before.before.before.before.args.self in
+    let w = c.args.self in
     let h : length w.bytes ≡ longest_object = search rules in
-    front_stepped _ _ w (omega (arith, h, c.before.before.before.if1.false)) c.before.step-lent.ensures
+    front_stepped _ _ w (omega (arith, h, c.if-size.false)) c.step_lent-after.ensures
 
 pub step_spec : {M : Type 1} → statement M
 step_spec =
     tie.close
     (tie.spec
     (λ c κs. search rules)
-    (λ c. handed_back _ _ _ (c.missed-beyond.ensures _ _ _ c.before.if1.true))
+    (λ c. handed_back _ _ _ (c.missed_beyond.ensures _ _ _ c.if-size.true))
     array-borrow-prefix-bytes
     slice-aggregate-step-lent
     (λ c κs. search rules)
