@@ -72,7 +72,7 @@ pub +rank_of_spec : {M : Type 1} → statement M
     (λ c κs. let p = c.requires.1 in record { in_bounds = (two t c.before.before.before, p.0); object_value = p.1.0 })
     (λ c κs. two t c.before.before.before.before.before.before)
     (λ c. omega arith)
-    (λ c κs.record { le_n = (omega (arith, (rest t c).within), c.take_apart-key.ensures.keyed.from); shorter_bound = omega (arith, (rest t c).below) })
+    (λ c κs. record { le_n = (omega (arith, (rest t c).within), c.take_apart-key.ensures.keyed.from); shorter_bound = omega (arith, (rest t c).below) })
     (λ c. omega (arith, (rest t c.before).within))
     (λ c. sym (rest t c.before.before).size)
     (λ c κs.

@@ -64,7 +64,7 @@ pub +unrank_spec : {M : Type 1} → statement M
     (λ c κs. tt)
     (λ c. two t c.before)
     (λ c κs. tt)
-    (λ c κs.record { le_n = omega (arith, known t c); rank_bound = omega (arith, known t c); shorter_bound = omega (arith, known t c) })
+    (λ c κs. record { le_n = omega (arith, known t c); rank_bound = omega (arith, known t c); shorter_bound = omega (arith, known t c) })
     (λ c. omega arith)
     (λ c κs. two t c.before.before.before.before)
     (λ c. omega (arith, (lent t c).within))

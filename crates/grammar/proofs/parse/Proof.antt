@@ -90,7 +90,7 @@ parse_spec =
     (λ c κs. search rules)
     (λ c. search rules)
     (λ c. search rules)
-    (λ c.record { at_most = at_most_malformed most_counts; input_value = c.first_line.ensures.input_value ∙ ap (λ f. opened_as f c.args.input.now) c.in_default.is })
+    (λ c. record { at_most = at_most_malformed most_counts; input_value = c.first_line.ensures.input_value ∙ ap (λ f. opened_as f c.args.input.now) c.in_default.is })
     (λ c κs. omega (arith, within c))
     (λ c. search rules)
     (λ c. search rules)

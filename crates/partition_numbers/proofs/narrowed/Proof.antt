@@ -15,4 +15,4 @@ pub narrowed_spec : {M : Type 1} → statement M
 narrowed_spec = tie.close (tie.spec
     (λ c. search rules)
     returns
-    (λ c.record { result_value = search rules; result_value_2 = search rules }))
+    (λ c. record { result_value = search rules; result_value_2 = search rules }))

@@ -19,7 +19,7 @@ rank_spec =
     tie.close
     (tie.spec
     (λ c κs. search rules)
-    (λ c κs.record { n_le_last_row = search rules; keys_of = search rules })
+    (λ c κs. record { n_le_last_row = search rules; keys_of = search rules })
     (λ c. let s = c.before.before.before.before.before in c.rank_of_few.ensures s.args.object.now s.requires.object_value c.keys_of-keys.ensures.1)
     (λ c κs. let s = c.before.before.before.before in record { n_le_places = (s.requires.object_len_bound, (few s, s.requires.k_bound)); filled = ones capacity (s.args.k + 1) refl (omega (arith, few s)) })
     (λ c. search rules)

@@ -26,7 +26,7 @@ unrank_spec =
     tie.close
     (tie.spec
     (λ c κs. search rules)
-    (λ c κs.record { n_le_last_row = omega arith; rank_bound = (c.requires.rank_bound, c.requires.k_bound); blocks_value = alone c.before.before })
+    (λ c κs. record { n_le_last_row = omega arith; rank_bound = (c.requires.rank_bound, c.requires.k_bound); blocks_value = alone c.before.before })
     (λ c. written_room c.write_few.ensures)
     (λ c. sym (written_long c.write_few.ensures))
     (λ c κs. sym (written_long c.write_few.ensures))

@@ -48,7 +48,7 @@ pub +unrank_spec : {M : Type 1} → statement M
     unrank.Post
     (λ c. unrank_none _ _ _ c.if-k-eq0.true c.requires.1.rank_bound)
     (λ c. omega arith)
-    (λ c κs.record { n_le_places = omega arith; k_nonzero = omega arith })
+    (λ c κs. record { n_le_places = omega arith; k_nonzero = omega arith })
     (λ c. omega arith)
     (λ c. omega arith)
     (λ c. omega arith)

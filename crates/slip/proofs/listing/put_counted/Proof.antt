@@ -17,6 +17,6 @@ put_counted_spec =
     (λ c κs. search rules)
     (λ c κs. search rules)
     (λ c κs. search rules)
-    (λ c κs.record { longest_body_in_bounds = search rules; lists_value = search rules })
+    (λ c κs. record { longest_body_in_bounds = search rules; lists_value = search rules })
     (λ c. search rules)
     returns)

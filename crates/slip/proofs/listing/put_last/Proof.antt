@@ -18,7 +18,7 @@ pub put_last_spec : {M : Type 1} → statement M
 put_last_spec =
     tie.close
     (tie.spec
-    (λ c.record { word_len_bound = search rules; width_in_bounds = search rules })
+    (λ c. record { word_len_bound = search rules; width_in_bounds = search rules })
     (λ c κs. search rules)
     (λ c κs. search rules)
     (λ c. search rules)

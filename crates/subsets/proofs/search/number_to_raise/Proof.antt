@@ -46,4 +46,4 @@ number_to_raise_spec =
     (λ c. omega arith)
     (λ c. omega arith)
     (λ c. (omega arith, below_more _ _ c.loop-i.invariant.1 (omega (arith, following c.before.before.before))))
-    (λ c.record { upper_bound = c.loop-i.invariant.0; by_index = c.loop-i.invariant.1; result_bound = λ h. absurd (omega arith) }))
+    (λ c. record { upper_bound = c.loop-i.invariant.0; by_index = c.loop-i.invariant.1; result_bound = λ h. absurd (omega arith) }))
