@@ -21,7 +21,8 @@ product c = sym c.is_product.ensures ∙ not-false _ c.if-not-is_product.false-r
 
 compare-requires : tie.Need-compare-found-requires
 compare-requires c κs =
-    let e = c.before in record { first = e.requires; bytes_len = eqb-true _ _ (product e) }
+    let e = c.before in
+    (e.requires, eqb-true _ _ (product e))
 
 returns-2 : tie.Need-returns-in-None
 returns-2 c =

@@ -47,7 +47,7 @@ module _ (c : tie.At-loop-place invariant-loop decreases-loop) where
 within : (c : tie.In-loop-place invariant-loop decreases-loop) → c.loop-place.at + length c.loop-place.object ≤ length (a c.before).args.bytes.now
 within c =
     let h = c.before in
-    omega (arith, (a h).requires.bytes_len, h.loop-place.invariant.1.0, h.loop-place.invariant.1.1.0, turn_within h.loop-place.place (a h).args.entries (long h) c.loop-place-test.true)
+    omega (arith, (a h).requires.1, h.loop-place.invariant.1.0, h.loop-place.invariant.1.1.0, turn_within h.loop-place.place (a h).args.entries (long h) c.loop-place-test.true)
 
 same-requires : tie.Need-same-requires invariant-loop decreases-loop
 same-requires c κs =
@@ -102,7 +102,7 @@ compare_spec =
     (tie.spec
     invariant-loop
     decreases-loop
-    (λ c. (omega arith, (omega arith, (refl, start _ _ _ _ c.requires.first))))
+    (λ c. (omega arith, (omega arith, (refl, start _ _ _ _ c.requires.0))))
     (λ c. omega (arith, (a c.before).good, within c))
     (λ c. omega arith)
     (λ c. omega arith)

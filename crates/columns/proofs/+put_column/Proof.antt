@@ -32,17 +32,17 @@ claims t = (put-blanks-reads.Asked, put-blanks-reads.Learnt, put-byte-reads.Aske
 
 put-column_returns : (t : ℕ) → put-column-lts.Need-returns-then-width-eq0 (claims t) (put-column_at t) put-column.Post
 unfolding column
-put-column_returns t c = (omega arith, rw c.if1.true (wrote_nothing c.before.before.args.out.now c.before.before.args.at))
+put-column_returns t c = (omega arith, rw c.if-width-eq0.true (wrote_nothing c.args.out.now c.args.at))
 
 put-column_returns_2 : (t : ℕ) → put-column-lts.Need-returns-then-n-lt10 (claims t) (put-column_at t) put-column.Post
 put-column_returns_2 t c =
-    let p = c.before.before.before.before.before.before in let e = p.before.before in let a = e.before.before.before.args in
-    (omega arith, rw (column_digit a.width a.n e.before.if1.false e.if2.true) (then p.put-blanks.ensures.1 c.before.before.put_byte.ensures.1))
+    let p = c.before.before.before.before.before.before in let e = p.before.before in let a = e.args in
+    (omega arith, rw (column_digit a.width a.n e.if-width-eq0.false e.if-n-lt10.true) (then p.put_blanks-last.ensures.1 c.put_byte.ensures.1))
 
 put-column_returns_3 : (t : ℕ) → put-column-lts.Need-returns (claims t) (put-column_at t) put-column.Post
 put-column_returns_3 t c =
-    let p = c.before.before.before.before.before.before in let e = p.before.before in let a = e.before.before.before.args in
-    (omega arith, rw (column-digits a.width a.n e.before.if1.false e.if2.false) (then p.put-column.ensures.1 c.before.before.put-byte2.ensures.1))
+    let p = c.before.before.before.before.before.before in let e = p.before.before in let a = e.args in
+    (omega arith, rw (column-digits a.width a.n e.if-width-eq0.false e.if-n-lt10.false) (then p.put_column-last.ensures.1 c.put_byte-2.ensures.1))
 
 pub +put_column_spec : {M : Type 1} → statement M
 +put_column_spec = close μ-put-column λ t. put-column-lts.spec

@@ -15,13 +15,13 @@ returns : tie.Need-returns
 returns c =
     let a = c.args in
     let end = a.at + a.count in
-    let e : end - a.at ≡ a.count = omega arith in record {
-      value = refl;
-      wrote = wrote_part a.out.now a.at (end - a.at) end
+    let e : end - a.at ≡ a.count = omega arith in (
+      refl,
+      wrote_part a.out.now a.at (end - a.at) end
           (c.fill_with.ensures ∙ ap (λ (n : ℕ). replicate n blank) (mid_len a.at end a.out.now c.requires ∙ e))
           (omega arith)
-          (simp length-replicate);
-    }
+          (simp length-replicate),
+    )
 
 pub put_blanks_spec : {M : Type 1} → statement M
 put_blanks_spec =

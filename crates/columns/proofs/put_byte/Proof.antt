@@ -12,4 +12,4 @@ put_byte_spec = tie.close (tie.spec
     (λ c. search rules)
     (λ c. search rules)
     (λ c. search rules)
-    (λ c. record { value = refl; wrote = wrote_byte _ _ _ (omega arith) }))
+    (λ c. (refl, wrote_byte _ _ _ (omega arith))))

@@ -9,7 +9,7 @@ use Rattle.columns.proofs.put_justified.Tie as tie
 
 returns : tie.Need-returns
 unfolding justified
-returns c = record { value = omega arith; wrote = then c.put_blanks-from.ensures.wrote c.put_word.ensures.wrote }
+returns c = (omega arith, then c.put_blanks-from.ensures.1 c.put_word.ensures.1)
 
 pub put_justified_spec : {M : Type 1} → statement M
 put_justified_spec =

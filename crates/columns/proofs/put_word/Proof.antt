@@ -12,7 +12,8 @@ use Rattle.columns.proofs.put_word.Tie as tie
 returns : tie.Need-returns
 returns c =
     let a = c.args in
-    let n = length a.word.now in record { value = refl; wrote = wrote_part a.out.now a.at (a.at + n - a.at) (a.at + n) c.copy.ensures (omega arith) refl }
+    let n = length a.word.now in
+    (refl, wrote_part a.out.now a.at (a.at + n - a.at) (a.at + n) c.copy.ensures (omega arith) refl)
 
 pub put_word_spec : {M : Type 1} → statement M
 put_word_spec =

@@ -45,5 +45,5 @@ partitions_spec =
     returns-2
     returns-3
     returns-4
-    (λ c κs. record { floor_nonzero = search rules; floor_bound = search rules })
+    (λ c κs. search rules)
     returns-5)

@@ -38,11 +38,11 @@ claims t = (derangement-that-fits-reads.Asked, derangement-that-fits-reads.Learn
 module _ (t : ℕ) where
   -- past the test for no place
   two : (c : rank-of-lts.Else-n-eq0 (claims t) (rank_of_at t) rank-of.Post) → 2 ≤ length c.args.object.now
-  two c = let s = c.before.before in two_where_object _ _ c.if-n-eq0.false s.requires.1.object_value
+  two c = let s = c.before.before in two_where_object _ _ c.if-n-eq0.false s.requires.1.1.0
 
   -- past the two numbers
   known : (c : rank-of-lts.After-derangement_that_fits-shorter (claims t) (rank_of_at t) rank-of.Post) → Numbers (length c.args.object.now) c.derangement_that_fits-longer.result c.derangement_that_fits-shorter.result
-  known c = numbers _ (two c.before.before) c.requires.1.object_bound c.derangement_that_fits-longer.ensures c.derangement_that_fits-shorter.ensures
+  known c = numbers _ (two c.before.before) c.requires.1.1.1 c.derangement_that_fits-longer.ensures c.derangement_that_fits-shorter.ensures
 
   -- with the key, and as many places as are left
   rest : (c : rank-of-lts.After-left_of-left (claims t) (rank_of_at t) rank-of.Post)
@@ -69,10 +69,10 @@ pub +rank_of_spec : {M : Type 1} → statement M
     (λ c κs. tt)
     (λ c. two t c.before)
     (λ c κs. tt)
-    (λ c κs. let p = c.requires.1 in record { in_bounds = (two t c.before.before.before, p.0); object_value = p.1.0 })
+    (λ c κs. let p = c.requires.1 in ((two t c.before.before.before, p.0), p.1.0))
     (λ c κs. two t c.before.before.before.before.before.before)
     (λ c. omega arith)
-    (λ c κs. record { le_n = (omega (arith, (rest t c).within), c.take_apart-key.ensures.keyed.from); shorter_bound = omega (arith, (rest t c).below) })
+    (λ c κs. ((omega (arith, (rest t c).within), c.take_apart-key.ensures.keyed.from), omega (arith, (rest t c).below)))
     (λ c. omega (arith, (rest t c.before).within))
     (λ c. sym (rest t c.before.before).size)
     (λ c κs.

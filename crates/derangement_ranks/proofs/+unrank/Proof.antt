@@ -34,11 +34,11 @@ claims t = (derangement-that-fits-reads.Asked, derangement-that-fits-reads.Learn
 module _ (t : ℕ) where
   -- past the test for no place
   two : (c : unrank-lts.Else-n-eq0 (claims t) (unrank_at t) unrank.Post) → 2 ≤ length c.args.object.now
-  two c = let s = c.before.before in two_where_some (length s.args.object.now) s.args.rank c.if-n-eq0.false s.requires.1.rank_bound
+  two c = let s = c.before.before in two_where_some (length s.args.object.now) s.args.rank c.if-n-eq0.false s.requires.1.1.1
 
   -- past the two numbers
   known : (c : unrank-lts.After-derangement_that_fits-shorter (claims t) (unrank_at t) unrank.Post) → Numbers (length c.args.object.now) c.derangement_that_fits-longer.result c.derangement_that_fits-shorter.result
-  known c = numbers _ (two c.before.before) c.requires.1.object_bound c.derangement_that_fits-longer.ensures c.derangement_that_fits-shorter.ensures
+  known c = numbers _ (two c.before.before) c.requires.1.1.0 c.derangement_that_fits-longer.ensures c.derangement_that_fits-shorter.ensures
 
   -- with the key, and as many places as are left
   lent : (c : unrank-lts.After-left_of-left (claims t) (unrank_at t) unrank.Post) → let a = c.args in let place = c.place_at-place.result in Front a.rank place.0 place.1 c.left_of-left.result a.object.now
@@ -51,7 +51,7 @@ module _ (t : ℕ) where
   returns : unrank-lts.Need-returns-then-n-eq0 (claims t) (unrank_at t) unrank.Post
   returns c =
       let s = c.before.before in
-      let zeroth : s.args.rank ≡ 0 = omega (arith, ap derangements_of c.if-n-eq0.true, derangement_zero, s.requires.1.rank_bound) in
+      let zeroth : s.args.rank ≡ 0 = omega (arith, ap derangements_of c.if-n-eq0.true, derangement_zero, s.requires.1.1.1) in
       rw zeroth (empty_at _ c.if-n-eq0.true)
 
 pub +unrank_spec : {M : Type 1} → statement M
@@ -64,12 +64,12 @@ pub +unrank_spec : {M : Type 1} → statement M
     (λ c κs. tt)
     (λ c. two t c.before)
     (λ c κs. tt)
-    (λ c κs. record { le_n = omega (arith, known t c); rank_bound = omega (arith, known t c); shorter_bound = omega (arith, known t c) })
+    (λ c κs. omega (arith, known t c))
     (λ c. omega arith)
     (λ c κs. two t c.before.before.before.before)
     (λ c. omega (arith, (lent t c).within))
     (λ c. sym (lent t c.before).size)
     (λ c κs. let f = lent t c.before in (omega arith, (omega arith, (omega arith, f.below))))
-    (λ c κs. let w = whole t c.before.before.before in record { in_bounds = (omega (arith, two t c.before.before.before.before.before.before.before.before.before.before), omega arith); keyed = w.keyed })
+    (λ c κs. let w = whole t c.before.before.before in ((omega (arith, two t c.before.before.before.before.before.before.before.before.before.before), omega arith), w.keyed))
     (λ c. c.put_together.auto.object ∙ (whole t c.before.before.before.before.before.before).size)
     (λ c. (whole t c.before.before.before.before.before.before).joined c.put_together.ensures)

@@ -7,6 +7,6 @@ use Rattle.derangements.proofs.first.Tie as tie
 
 pub first_spec : {M : Type 1} → statement M
 first_spec = tie.close (tie.spec
-    (λ c κs. record { object_len_bound = search rules; fact = search rules })
+    (λ c κs. search rules)
     (λ c. search rules)
     (λ c. edge_first c.write_end.ensures))

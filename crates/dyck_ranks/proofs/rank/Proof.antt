@@ -12,12 +12,12 @@ use Rattle.dyck_ranks.proofs.rank.Tie as tie
 
 -- the word fits into the table
 short : (c : tie.Start) → length c.args.object.now ≤ longest_object
-short c = omega (arith, long c.args.n c.args.object.now c.requires.object_value)
+short c = omega (arith, long c.args.n c.args.object.now c.requires.1.0)
 
 pub rank_spec : {M : Type 1} → statement M
 rank_spec =
     tie.close
     (tie.spec
     (λ c κs. short c.before)
-    (λ c κs. let start = c.before.before.before in record { object_value = start.requires.object_value; object_len_bound = (omega arith, short start, c.row_lengths-rows.ensures); n_bound = start.requires.n_bound })
+    (λ c κs. let start = c.before.before.before in (start.requires.1.0, ((omega arith, short start, c.row_lengths-rows.ensures), start.requires.1.1)))
     (λ c. sym (place-is_rank (lists c.args.n) c.rank_of.result c.rank_of.ensures)))

@@ -12,7 +12,8 @@ use Rattle.families.proofs.first.Tie as tie
 first-requires : tie.Need-first-requires
 unfolding count_of
 first-requires c κs =
-    let pass = verdict c.ask.ensures c.in_default.is in record { lists_value = admitted _ _ FIRST _ _ pass; nonzero = (asks_enough _ _).some_first _ _ pass; object_len = (asks_enough _ _).sized FIRST _ _ refl pass }
+    let pass = verdict c.ask.ensures c.in_default.is in
+    (admitted _ _ FIRST _ _ pass, ((asks_enough _ _).some_first _ _ pass, (asks_enough _ _).sized FIRST _ _ refl pass))
 
 returns : tie.Need-returns-in_default
 returns c = writes_first _ _ _ c.first.ensures (verdict c.ask.ensures c.in_default.is)

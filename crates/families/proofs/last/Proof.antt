@@ -12,7 +12,8 @@ use Rattle.families.proofs.last.Tie as tie
 last-requires : tie.Need-last-requires
 unfolding count_of
 last-requires c κs =
-    let pass = verdict c.ask.ensures c.in_default.is in record { lists_value = admitted _ _ LAST _ _ pass; nonzero = (asks_enough _ _).some-last _ _ pass; object_len = (asks_enough _ _).sized LAST _ _ refl pass }
+    let pass = verdict c.ask.ensures c.in_default.is in
+    (admitted _ _ LAST _ _ pass, ((asks_enough _ _).some-last _ _ pass, (asks_enough _ _).sized LAST _ _ refl pass))
 
 returns : tie.Need-returns-in_default
 returns c = writes_last _ _ _ c.last.ensures (verdict c.ask.ensures c.in_default.is)

@@ -13,7 +13,8 @@ use Rattle.families.proofs.rank.Tie as tie
 rank-requires : tie.Need-rank-requires
 unfolding asked is_in
 rank-requires c κs =
-    let pass = verdict c.ask.ensures c.in_default.is in record { object_value = (asks_enough _ _).reads RANK _ _ refl pass; lists_bound = fits-asked _ _ RANK _ _ refl pass }
+    let pass = verdict c.ask.ensures c.in_default.is in
+    ((asks_enough _ _).reads RANK _ _ refl pass, fits-asked _ _ RANK _ _ refl pass)
 
 returns : tie.Need-returns-in_default
 unfolding act rank_of

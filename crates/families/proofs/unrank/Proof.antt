@@ -14,7 +14,8 @@ use Rattle.families.proofs.unrank.Tie as tie
 unrank-requires : tie.Need-unrank-requires
 unfolding count_of asked is_in
 unrank-requires c κs =
-    let pass = verdict c.ask.ensures c.in_default.is in record { lists_value = admitted _ _ (UNRANK _) _ _ pass; lists_bound = fits-asked _ _ (UNRANK _) _ _ refl pass; object_len = (asks_enough _ _).sized (UNRANK _) _ _ refl pass; rank_bound = omega (arith, (asks_enough _ _).below _ _ _ pass) }
+    let pass = verdict c.ask.ensures c.in_default.is in
+    (admitted _ _ (UNRANK _) _ _ pass, (fits-asked _ _ (UNRANK _) _ _ refl pass, ((asks_enough _ _).sized (UNRANK _) _ _ refl pass, omega (arith, (asks_enough _ _).below _ _ _ pass))))
 
 returns : tie.Need-returns-in_default
 returns c = writes_ranked _ _ _ _ c.unrank.ensures (verdict c.ask.ensures c.in_default.is)

@@ -32,12 +32,12 @@ module _ (c : tie.In-Line) where
   end = c.in-Line.end
 
   within : (line_width 3 ≤ end) × (end ≤ length x)
-  within = c.first_line.ensures.ends start end c.in-Line.is
+  within = c.first_line.ensures.0 start end c.in-Line.is
 
   by : {a b d : Option ℕ} → said x 0 ≡ a → said x 1 ≡ b → said x 2 ≡ d → slip_of x ≡ slip_at start (cons_field a (cons_field b (cons_field d (some [])))) (drop end x)
   unfolding opened_as
   by p q r =
-      c.first_line.ensures.input_value
+      c.first_line.ensures.1
       ∙ ap (λ f. opened_as f x) c.in-Line.is
       ∙ ap (λ (o : Option (List ℕ)). slip_at start o (drop end x)) (fields_three x p q r)
 
@@ -65,7 +65,8 @@ k_said c = sym c.number_at-3.ensures ∙ ap value_as c.in-Number-number_at-2.is
 
 second-line-requires : tie.Need-second_line-requires
 second-line-requires c κs =
-    let e = c.before.before.before.before in record { n_le_most_counts = field_small (take field_width (drop field_width (x (begun (kinded e))))) e.in-Number-number_at.n (simp length-take (omega arith)) (n_said e); most_counts_in_bounds = search rules }
+    let e = c.before.before.before.before in
+    (field_small (take field_width (drop field_width (x (begun (kinded e))))) e.in-Number-number_at.n (simp length-take (omega arith)) (n_said e), search rules)
 
 -- the first line whole, as the code hands it on
 abbrev head : tie.In-Number-number_at-2 → Head
@@ -80,7 +81,8 @@ head-said c = let e = sized c in by (begun (kinded e)) (kind_said (kinded e)) (n
 returns-5 : tie.Need-returns
 returns-5 c =
     let g = c.before.before.before.before.before in
-    let s = begun (kinded (sized g)) in record { at_most = c.second_line.ensures.at_most; input_value = head-said g ∙ ap (slip_with (head g)) (sym (rest_is (x s) (end s))) ∙ c.second_line.ensures.rest_value }
+    let s = begun (kinded (sized g)) in
+    (c.second_line.ensures.0, head-said g ∙ ap (slip_with (head g)) (sym (rest_is (x s) (end s))) ∙ c.second_line.ensures.1)
 
 pub parse_spec : {M : Type 1} → statement M
 unfolding opened_as slip_at cons_field parsed_as value_as
@@ -90,19 +92,19 @@ parse_spec =
     (λ c κs. search rules)
     (λ c. search rules)
     (λ c. search rules)
-    (λ c. record { at_most = at_most_malformed most_counts; input_value = c.first_line.ensures.input_value ∙ ap (λ f. opened_as f c.args.input.now) c.in_default.is })
+    (λ c. (at_most_malformed most_counts, c.first_line.ensures.1 ∙ ap (λ f. opened_as f c.args.input.now) c.in_default.is))
     (λ c κs. omega (arith, within c))
     (λ c. search rules)
     (λ c. search rules)
-    (λ c. let s = c.before.before in record { at_most = at_most_malformed most_counts; input_value = by s (sym c.number_at.ensures ∙ ap value_as c.in_default-number_at.is) refl refl })
+    (λ c. let s = c.before.before in (at_most_malformed most_counts, by s (sym c.number_at.ensures ∙ ap value_as c.in_default-number_at.is) refl refl))
     (λ c κs. omega (arith, within (begun c)))
     (λ c. search rules)
     (λ c. search rules)
-    (λ c. let d = c.before.before in record { at_most = at_most_malformed most_counts; input_value = by (begun d) (kind_said d) (sym c.number_at-2.ensures ∙ ap value_as c.in_default-number_at-2.is) refl })
+    (λ c. let d = c.before.before in (at_most_malformed most_counts, by (begun d) (kind_said d) (sym c.number_at-2.ensures ∙ ap value_as c.in_default-number_at-2.is) refl))
     (λ c κs. omega (arith, within (begun (kinded c))))
     (λ c. search rules)
     (λ c. search rules)
-    (λ c. let e = c.before.before in record { at_most = at_most_malformed most_counts; input_value = by (begun (kinded e)) (kind_said (kinded e)) (n_said e) (sym c.number_at-3.ensures ∙ ap value_as c.in_default-number_at-3.is) })
+    (λ c. let e = c.before.before in (at_most_malformed most_counts, by (begun (kinded e)) (kind_said (kinded e)) (n_said e) (sym c.number_at-3.ensures ∙ ap value_as c.in_default-number_at-3.is)))
     (λ c. omega (arith, within (begun (kinded (sized c)))))
     (λ c. omega (arith, within (begun (kinded (sized c)))))
     (λ c. omega (arith, within (begun (kinded (sized c)))))

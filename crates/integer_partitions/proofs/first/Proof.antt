@@ -15,20 +15,20 @@ room c =
     let a = c.args in
     let some : 1 ≤ length a.object.now = omega (arith, c.if-k-eq0.false) in
     let less : length a.object.now - 1 ≤ length a.object.now = omega arith in
-    omega (arith, c.requires.n_le_places, mul-le-mul_right a.floor some, mul-le-mul_right a.floor less)
+    omega (arith, c.requires.0, mul-le-mul_right a.floor some, mul-le-mul_right a.floor less)
 
 returns-2 : tie.Need-returns
 returns-2 c =
     let s = c.before.before.before.before.before.before in
     let a = s.args in
-    rw c.fill_with.ensures (first-is a.floor a.n (length a.object.now) (omega (arith, c.if-k-eq0.false)) (omega (arith, s.requires.n_le_places)))
+    rw c.fill_with.ensures (first-is a.floor a.n (length a.object.now) (omega (arith, c.if-k-eq0.false)) (omega (arith, s.requires.0)))
 
 pub first_spec : {M : Type 1} → statement M
 first_spec =
     tie.close
     (tie.spec
-    (λ c. let s = c.before.before in (empty_ends s.args.floor s.args.n s.args.object.now c.if-k-eq0.true (s.requires.n_value c.if-k-eq0.true)).0)
-    (λ c. omega (arith, room c.before, c.requires.n_le_places))
+    (λ c. let s = c.before.before in (empty_ends s.args.floor s.args.n s.args.object.now c.if-k-eq0.true (s.requires.1 c.if-k-eq0.true)).0)
+    (λ c. omega (arith, room c.before, c.requires.0))
     (λ c κs. search rules)
     (λ c. search rules)
     (λ c. omega (arith, room c.before.before.before.before))

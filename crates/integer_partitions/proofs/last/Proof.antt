@@ -25,20 +25,20 @@ returns-2 c =
     let a = s.args in
     let k : ℕ = length a.object.now in
     let larger : c.fill_with-2.new.part ≡ replicate (a.n % k) (a.n / k + 1) = c.fill_with-2.ensures ∙ ap (λ (m : ℕ). replicate m (a.n / k + 1)) (length-take-le _ _ (within w)) in
-    rw (larger, w.fill_with.ensures) (last-is a.floor a.n k (omega (arith, w.if-k-eq0.false)) (omega (arith, s.requires.n_le_places)))
+    rw (larger, w.fill_with.ensures) (last-is a.floor a.n k (omega (arith, w.if-k-eq0.false)) (omega (arith, s.requires.0)))
 
 pub last_spec : {M : Type 1} → statement M
 last_spec =
     tie.close
     (tie.spec
-    (λ c. let s = c.before.before in (empty_ends s.args.floor s.args.n s.args.object.now c.if-k-eq0.true (s.requires.n_value c.if-k-eq0.true)).1)
+    (λ c. let s = c.before.before in (empty_ends s.args.floor s.args.n s.args.object.now c.if-k-eq0.true (s.requires.1 c.if-k-eq0.true)).1)
     (λ c. search rules)
     (λ c. search rules)
-    (λ c. let s = c.before.before in omega (arith, s.requires.n_le_places, div-le_self s.args.n (length s.args.object.now)))
+    (λ c. let s = c.before.before in omega (arith, s.requires.0, div-le_self s.args.n (length s.args.object.now)))
     (λ c κs. search rules)
     (λ c. within c.before.before)
     (λ c. sym (length-take-le _ _ (within c.before.before.before)))
-    (λ c. let s = c.before.before.before.before.before.before.before in omega (arith, s.requires.n_le_places, div-le_self s.args.n (length s.args.object.now)))
+    (λ c. let s = c.before.before.before.before.before.before.before in omega (arith, s.requires.0, div-le_self s.args.n (length s.args.object.now)))
     (λ c κs. search rules)
     (λ c. search rules)
     returns-2)

@@ -14,23 +14,23 @@ use Rattle.integer_partitions.proofs.next.Tie as tie
 
 -- the part that goes up
 here : (c : tie.Else-i-object) → let x = c.args.object.now in let i = c.part_to_raise-i.result in Moved x i (get_or x i 0 + 1) (total (take i x) - 1)
-here c = raised _ _ _ _ c.requires.object_value c.requires.n_le_places.0 c.part_to_raise-i.ensures c.if-i-object.false
+here c = raised _ _ _ _ c.requires.1 c.requires.0.0 c.part_to_raise-i.ensures c.if-i-object.false
 
 returns-2 : tie.Need-returns
 returns-2 c =
     let w = c.before.before.before.before in
     let e = w.before.before.before.before in
     next-steps (lists _ _ _)
-    (raises _ _ _ _ e.requires.object_value e.part_to_raise-i.ensures (here e).inside c.first.new.object c.first.auto.object
+    (raises _ _ _ _ e.requires.1 e.part_to_raise-i.ensures (here e).inside c.first.new.object c.first.auto.object
     (rw (w.wide.ensures, w.sum-others.ensures) at c.first.ensures))
 
 pub next_spec : {M : Type 1} → statement M
 next_spec =
     tie.close
     (tie.spec
-    (λ c κs. let s = c.before in omega (arith, s.requires.n_le_places, partition_cases _ _ _ _ s.requires.object_value, few _ _ _ _ s.requires.n_le_places.1 s.requires.object_value))
+    (λ c κs. let s = c.before in omega (arith, s.requires.0, partition_cases _ _ _ _ s.requires.1, few _ _ _ _ s.requires.0.1 s.requires.1))
     (λ c. search rules)
-    (λ c. next_ends (lists _ _ _) (none_rises _ _ _ _ c.requires.object_value c.part_to_raise-i.ensures c.if-i-object.true))
+    (λ c. next_ends (lists _ _ _) (none_rises _ _ _ _ c.requires.1 c.part_to_raise-i.ensures c.if-i-object.true))
     (λ c. search rules)
     (λ c. omega (arith, here c.before))
     (λ c. search rules)

@@ -13,14 +13,14 @@ use Rattle.integer_partitions.proofs.previous.Tie as tie
 
 -- the part that goes down
 here : (c : tie.Else-i-object) → let x = c.args.object.now in let i = c.part_to_lower-i.result in Moved x i (get_or x i 0 - 1) (total (take i x) + 1)
-here c = lowered _ _ _ _ c.requires.object_value c.requires.n_le_places c.part_to_lower-i.ensures c.if-i-object.false
+here c = lowered _ _ _ _ c.requires.1 c.requires.0 c.part_to_lower-i.ensures c.if-i-object.false
 
 returns-2 : tie.Need-returns
 returns-2 c =
     let w = c.before.before.before.before in
     let e = w.before.before.before.before in
     previous_steps (lists _ _ _)
-    (lowers _ _ _ _ e.requires.object_value e.part_to_lower-i.ensures (here e).inside c.last.new.object c.last.auto.object
+    (lowers _ _ _ _ e.requires.1 e.part_to_lower-i.ensures (here e).inside c.last.new.object c.last.auto.object
     (rw (w.wide.ensures, w.sum-others.ensures) at c.last.ensures))
 
 pub previous_spec : {M : Type 1} → statement M
@@ -29,7 +29,7 @@ previous_spec =
     (tie.spec
     (λ c κs. search rules)
     (λ c. search rules)
-    (λ c. previous_ends (lists _ _ _) (none-falls _ _ _ _ c.requires.object_value c.part_to_lower-i.ensures c.if-i-object.true))
+    (λ c. previous_ends (lists _ _ _) (none-falls _ _ _ _ c.requires.1 c.part_to_lower-i.ensures c.if-i-object.true))
     (λ c. search rules)
     (λ c. omega (arith, here c.before))
     (λ c. search rules)

@@ -27,7 +27,7 @@ add-earlier c =
     let s = c.before.before.before.before.before.before in
     let a = s.args in
     let x = a.object.now in
-    record { fits = omega (arith, (loop-again c).sum, rank_below (lists a.floor a.n (length x)) x s.requires.object_value, counted a.floor a.n (length x), small_over a.floor a.n (length x) (omega arith) (omega arith)) }
+    record { fits = omega (arith, (loop-again c).sum, rank_below (lists a.floor a.n (length x)) x s.requires.1, counted a.floor a.n (length x), small_over a.floor a.n (length x) (omega arith) (omega arith)) }
 
 pub rank_spec : {M : Type 1} → statement M
 rank_spec =
@@ -35,11 +35,11 @@ rank_spec =
     (tie.spec
     invariant-loop
     decreases-loop
-    (λ c. let a = c.args in ranking a.floor a.n a.object.now (omega arith) c.requires.object_value)
+    (λ c. let a = c.args in ranking a.floor a.n a.object.now (omega arith) c.requires.1)
     (λ c. omega arith)
     (λ c. omega (arith, c.loop-k.invariant))
     (λ c κs. search rules)
-    (λ c κs. let s = c.before.before.before.before.before in record { floor_nonzero = omega (arith, s.requires.n_le_places, c.wide-p.ensures, last_of c.loop-k.invariant (omega arith), few _ _ _ _ s.requires.n_le_places.1 s.requires.object_value); floor_le_p = omega (arith, s.requires.n_le_places, c.wide-p.ensures, last_of c.loop-k.invariant (omega arith), few _ _ _ _ s.requires.n_le_places.1 s.requires.object_value) })
+    (λ c κs. let s = c.before.before.before.before.before in omega (arith, s.requires.0, c.wide-p.ensures, last_of c.loop-k.invariant (omega arith), few _ _ _ _ s.requires.0.1 s.requires.1))
     add-earlier
     (λ c. omega (arith, c.wide-p.ensures, last_of c.loop-k.invariant (omega arith)))
     (λ c. omega arith)

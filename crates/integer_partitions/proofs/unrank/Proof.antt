@@ -31,10 +31,10 @@ unrank_spec =
     (tie.spec
     invariant-loop
     decreases-loop
-    (λ c. let a = c.args in unranking a.floor a.n a.rank a.object.now (omega arith) c.requires.rank_bound)
+    (λ c. let a = c.args in unranking a.floor a.n a.rank a.object.now (omega arith) c.requires.1)
     (λ c. (left c).1)
     (λ c. (left c).0)
-    (λ c κs. record { floor_nonzero = omega (arith, left c, c.requires); floor_bound = omega (arith, left c, c.requires) })
+    (λ c κs. omega (arith, left c, c.requires))
     (λ c. record { fits = omega (arith, left c.before.before, c.requires) })
     (λ c. omega (arith, left c.before.before, c.loop-r.invariant))
     (λ c. ends_higher c.loop-r.invariant (omega arith) c.at_least-here.ensures c.if-here-r.true)

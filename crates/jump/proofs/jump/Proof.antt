@@ -11,7 +11,8 @@ use Rattle.jump.proofs.jump.Statement.{statement}
 use Rattle.jump.proofs.jump.Tie as tie
 
 jump-from-requires : tie.Need-jump_from-requires
-jump-from-requires c κs = let the_whole = rank_told _ _ _ (sym (rw (ap ranked_as c.in-Rank.is) at c.rank-answer.ensures)) in record { object_value = the_whole.0; object_value_2 = the_whole.1 }
+jump-from-requires c κs =
+    rank_told _ _ _ (sym (rw (ap ranked_as c.in-Rank.is) at c.rank-answer.ensures))
 
 returns : tie.Need-returns-in-Rank
 returns c =

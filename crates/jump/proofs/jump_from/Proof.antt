@@ -17,19 +17,19 @@ aimed : (c : tie.After-aim) → let a = c.args in goal_as c.aim.result ≡ targe
 aimed c = let s = c.before.before in c.aim.ensures ∙ ap (target _ (2 ^ 64)) (to_z-of_z w64 s.args.d s.ranges.d)
 
 returns : tie.Need-returns-in_default
-returns c = let e = c.before in let s = e.before.before in off _ _ _ _ s.requires.object_value s.requires.object_value_2 (sym (ap goal_as c.in_default.is) ∙ aimed e)
+returns c = let e = c.before in let s = e.before.before in off _ _ _ _ s.requires.0 s.requires.1 (sym (ap goal_as c.in_default.is) ∙ aimed e)
 
 returns-2 : tie.Need-returns-in-Done
 returns-2 c =
     let u = c.before.before.before in let t = u.before.before in
     let e = t.before.before in let s = e.before.before in
-    landed _ _ _ _ s.requires.object_value s.requires.object_value_2 (sym (ap goal_as t.in-At.is) ∙ aimed e.before) (ap written_as c.in-Done.is) u.unrank-answer.ensures
+    landed _ _ _ _ s.requires.0 s.requires.1 (sym (ap goal_as t.in-At.is) ∙ aimed e.before) (ap written_as c.in-Done.is) u.unrank-answer.ensures
 
 returns-3 : tie.Need-returns-in-Refused
 returns-3 c =
     let u = c.before.before.before in let t = u.before.before in
     let e = t.before.before in let s = e.before.before in
-    ended _ _ _ _ s.requires.object_value s.requires.object_value_2 (sym (ap goal_as t.in-At.is) ∙ aimed e.before) (ap written_as c.in-Refused.is) u.unrank-answer.ensures
+    ended _ _ _ _ s.requires.0 s.requires.1 (sym (ap goal_as t.in-At.is) ∙ aimed e.before) (ap written_as c.in-Refused.is) u.unrank-answer.ensures
 
 pub jump_from_spec : {M : Type 1} → statement M
 jump_from_spec =

@@ -9,10 +9,11 @@ use Rattle.partition_numbers.proofs.narrowed.Tie as tie
 
 returns : tie.Need-returns-then-e-j
 returns c =
-    let a = c.args in record { result_value = omega arith; result_value_2 = same_number a.e (a.e + a.e % 2) a.j (omega arith) (omega arith) }
+    let a = c.args in
+    (omega arith, same_number a.e (a.e + a.e % 2) a.j (omega arith) (omega arith))
 
 pub narrowed_spec : {M : Type 1} → statement M
 narrowed_spec = tie.close (tie.spec
     (λ c. search rules)
     returns
-    (λ c. record { result_value = search rules; result_value_2 = search rules }))
+    (λ c. search rules))

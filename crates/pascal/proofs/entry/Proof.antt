@@ -12,7 +12,7 @@ use Rattle.pascal.proofs.entry.Tie as tie
 
 read-or-climb-requires : tie.Need-read_or_climb-requires
 unfolding same rows step
-read-or-climb-requires c κs = record { n_le_places = (omega arith, (omega arith, c.requires.1)); triangle = ruled _ refl }
+read-or-climb-requires c κs = ((omega arith, (omega arith, c.requires.1)), ruled _ refl)
 
 pub entry_spec : {M : Type 1} → statement M
 entry_spec =

@@ -32,7 +32,7 @@ replay_spec =
     (λ c. refuses _ _ _ _ _ (λ p. omega (arith, p.answered)))
     (λ c κs. search rules)
     (λ c. refuses _ _ _ _ _ (λ p. eqb-false _ _ (sym c.is_product.ensures ∙ not-true _ c.if-not-is_product.true-raw) p.room))
-    (λ c κs. let p = fit c.before.before.before in record { ranked = p.ranked; answered = p.answered; room = p.room })
+    (λ c κs. let p = fit c.before.before.before in (p.ranked, (p.answered, p.room)))
     (λ c. search rules)
     (λ c. search rules)
     (λ c. search rules)

@@ -55,7 +55,7 @@ loop-again c =
     let l = (head o).loop-i in
     let k = c.keep in
     let size = o.one-call.auto.1.1.1.1.0 ∙ l.invariant.1.1.0 in
-    let stands = turn _ _ _ _ _ (a o).requires.ranked _ _ _ l.invariant.1.1.1.1.1 (inside o) (omega (arith, (a o).requires, l.invariant)) o.one-call.ensures k.ensures in
+    let stands = turn _ _ _ _ _ (a o).requires.0 _ _ _ l.invariant.1.1.1.1.1 (inside o) (omega (arith, (a o).requires, l.invariant)) o.one-call.ensures k.ensures in
     (omega arith, (rw (add-one, suc-mul) (omega (arith, size, l.invariant)), (size, (length-set l.answers l.i o.one-call.result ∙ l.invariant.1.1.1.0, (k.auto.trail ∙ l.invariant.1.1.1.1.0, stands)))))
 
 returns : tie.Need-returns invariant-loop decreases-loop
@@ -63,7 +63,7 @@ returns c =
     let l = c.loop-i in
     let s = entry c.before in
     let all : l.i ≡ length s.args.calls.now = omega arith in
-    over _ _ _ _ _ s.requires.ranked l.invariant.1.1.1.1.1 all (omega (arith, s.requires, l.invariant)) (l.invariant.1.0 ∙ ap (λ (n : ℕ). n * length s.args.object.now) all ∙ sym (l.invariant.1.1.1.1.0 ∙ s.requires.room))
+    over _ _ _ _ _ s.requires.0 l.invariant.1.1.1.1.1 all (omega (arith, s.requires, l.invariant)) (l.invariant.1.0 ∙ ap (λ (n : ℕ). n * length s.args.object.now) all ∙ sym (l.invariant.1.1.1.1.0 ∙ s.requires.1.1))
 
 pub run_spec : {M : Type 1} → statement M
 run_spec =

@@ -35,10 +35,10 @@ module _ (t : ℕ) (c : rank-of-lts.Else-n-k (claims t) (rank_of_at t) rank-of.P
   edition = edition_of c.args.edition
 
   asked : let a = c.args in Asked a.n a.k a.keys.now
-  asked = record { fewer = c.if-n-k.false; keyed = c.requires.1.keys_of; fits = c.requires.1.n_le_places.1 }
+  asked = record { fewer = c.if-n-k.false; keyed = c.requires.1.1.0; fits = c.requires.1.0.1 }
 
   band : let a = c.args in InBand a.band.now a.w a.at a.n a.k
-  band = let a = c.args in in_band a.band.now a.w a.at a.n a.k (some_block edition asked) c.if-n-k.false c.requires.1.reaches
+  band = let a = c.args in in_band a.band.now a.w a.at a.n a.k (some_block edition asked) c.if-n-k.false c.requires.1.1.1
 
 sum_is : (t : ℕ) (c : rank-of-lts.After-rank_of (claims t) (rank_of_at t) rank-of.Post) → let a = c.args in RankBy (edition_of a.edition) a.n a.k a.keys.now (c.earlier-before.result + c.rank_of.result)
 sum_is t c =
@@ -67,6 +67,6 @@ pub +rank_of_spec : {M : Type 1} → statement M
     (λ c κs.
     let e = c.before.before.before.before.before.before in
     let i = c.others_in.ensures in
-    (omega (arith, e.if-n-k.false, e.requires.0), ((omega (arith, e.requires.1.n_le_places.0), others_fit (edition t e.before.before) (asked t e.before.before) i), (others_keyed (edition t e.before.before) (asked t e.before.before) i, others_reached (band t e.before.before) _ c.back_by.ensures i))))
+    (omega (arith, e.if-n-k.false, e.requires.0), ((omega (arith, e.requires.1.0.0), others_fit (edition t e.before.before) (asked t e.before.before) i), (others_keyed (edition t e.before.before) (asked t e.before.before) i, others_reached (band t e.before.before) _ c.back_by.ensures i))))
     (λ c. let e = c.before.before.before.before.before.before.before in omega (arith, rank_fits (edition t e.before.before) (asked t e.before.before) (sum_is t c)))
     (λ c. sum_is t c)

@@ -34,7 +34,7 @@ abbrev edition : (t : ℕ) (c : rank-of-few-lts.Else-n-k (claims t) (rank_of_few
 edition t c = edition_of c.args.edition
 
 asked : (t : ℕ) (c : rank-of-few-lts.Else-n-k (claims t) (rank_of_few_at t) rank-of-few.Post) → let a = c.args in Asked a.n a.k a.keys.now
-asked t c = record { fewer = c.if-n-k.false; keyed = c.requires.1.keys_of; fits = c.requires.1.n_le_last_row.1 }
+asked t c = record { fewer = c.if-n-k.false; keyed = c.requires.1.1; fits = c.requires.1.0.1 }
 
 sum_is : (t : ℕ) (c : rank-of-few-lts.After-rank_of_few (claims t) (rank_of_few_at t) rank-of-few.Post) → let a = c.args in RankBy (edition_of a.edition) a.n a.k a.keys.now (c.earlier-before.result + c.rank_of_few.result)
 sum_is t c = let e = c.before.before.before.before.before in summed (edition t e.before) (asked t e.before) c.others_in.ensures c.both-numbers.ensures c.earlier-before.ensures c.rank_of_few.ensures

@@ -32,7 +32,7 @@ claims t = (both-reads.Asked, both-reads.Learnt, place-at-reads.Asked, place-at-
 -- past the test for as many blocks as models, and past the place of the rank
 
 to_write : (t : ℕ) (c : write-few-lts.Else-n-k (claims t) (write_few_at t) write-few.Post) → let a = c.args in ToWrite a.n a.k a.rank a.blocks.now
-to_write t c = record { fewer = c.if-n-k.false; below = c.requires.1.rank_bound.0; fits = c.requires.1.rank_bound.1; alone = c.requires.1.blocks_value }
+to_write t c = record { fewer = c.if-n-k.false; below = c.requires.1.1.0.0; fits = c.requires.1.1.0.1; alone = c.requires.1.1.1 }
 
 put : (t : ℕ) (c : write-few-lts.After-place_at-last (claims t) (write_few_at t) write-few.Post) → let a = c.args in Put (edition_of a.edition) (a.n - 1) (a.k - 1) a.n a.k a.rank a.blocks.now c.place_at-last.result.0 c.place_at-last.result.1
 put t c = last-put (to_write t c.before.before) c.both-numbers.ensures c.place_at-last.ensures
@@ -45,12 +45,12 @@ pub +write_few_spec : {M : Type 1} → statement M
     (λ c. let a = c.args in let q = c.requires.1.1 in alone_written (edition_of a.edition) a.n a.k a.rank a.blocks.now c.if-n-k.true q.0.0 q.1)
     (λ c. omega (arith, c.if-n-k.false))
     (λ c κs. (omega arith, (block_there (to_write t c), omega (arith, c.if-n-k.false))))
-    (λ c κs. let q = to_write t c.before in let all = all_there q c.both-numbers.ensures in record { joined_nonzero = (joined-there q c.both-numbers.ensures, omega (arith, all, q.below)); joined_bound = omega (arith, all, q.fits) })
+    (λ c κs. let q = to_write t c.before in let all = all_there q c.both-numbers.ensures in ((joined-there q c.both-numbers.ensures, omega (arith, all, q.below)), omega (arith, all, q.fits)))
     (λ c κs. (block_there (to_write t c.before.before), (omega (arith, c.if-n-k.false), (put t c).upto)))
     (λ c. omega arith)
     (λ c κs. block_there (to_write t c.before.before.before.before))
     (λ c κs.
     let s = c.before.before.before.before.before.before in
     let p = put t c.before.before.before.before in
-    (omega (arith, c.if-n-k.false, s.requires.0), (omega (arith, s.requires.1.n_le_last_row), ((rest_below p c.others_in.ensures, rest_fits p c.others_in.ensures s.requires.1.rank_bound.1), p.alone _))))
+    (omega (arith, c.if-n-k.false, s.requires.0), (omega (arith, s.requires.1.0), ((rest_below p c.others_in.ensures, rest_fits p c.others_in.ensures s.requires.1.1.0.1), p.alone _))))
     (λ c. written (put t c.before.before.before.before.before) c.others_in.ensures c.block_of.ensures c.write_few.ensures)

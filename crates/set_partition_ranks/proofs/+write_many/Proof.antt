@@ -36,10 +36,10 @@ claims t = (place-at-reads.Asked, place-at-reads.Learnt, block-of-reads.Asked, b
 
 module _ (t : ℕ) (c : write-many-lts.Else-n-k (claims t) (write_many_at t) write-many.Post) where
   to_write : let a = c.args in ToWrite a.n a.k a.rank a.blocks.now
-  to_write = record { fewer = c.if-n-k.false; below = c.requires.1.rank_bound.0; fits = c.requires.1.rank_bound.1; alone = c.requires.1.blocks_value }
+  to_write = record { fewer = c.if-n-k.false; below = c.requires.1.1.0.0; fits = c.requires.1.1.0.1; alone = c.requires.1.1.1.0 }
 
   band : let a = c.args in InBand a.band.now a.w a.at a.n a.k
-  band = let a = c.args in in_band a.band.now a.w a.at a.n a.k (block_there to_write) c.if-n-k.false c.requires.1.reaches
+  band = let a = c.args in in_band a.band.now a.w a.at a.n a.k (block_there to_write) c.if-n-k.false c.requires.1.1.1.1
 
 put : (t : ℕ) (c : write-many-lts.After-place_at-last (claims t) (write_many_at t) write-many.Post) → let a = c.args in Put (edition_of a.edition) (a.n - 1) (a.k - 1) a.n a.k a.rank a.blocks.now c.place_at-last.result.0 c.place_at-last.result.1
 put t c = let e = c.before.before.before in last-put (to_write t e.before) (band t e.before).numbers c.place_at-last.ensures
@@ -57,8 +57,8 @@ pub +write_many_spec : {M : Type 1} → statement M
     (λ c. (band t c.before.before).row_before)
     (λ c. omega (arith, (band t c.before.before).joined-within))
     (λ c. (band t c.before.before).joined-within)
-    (λ c κs. let e = c.before.before in let q = to_write t e.before in let all = all_there q (band t e.before).numbers in record { joined_nonzero = (joined-there q (band t e.before).numbers, omega (arith, all, q.below)); joined_bound = omega (arith, all, q.fits) })
-    (λ c κs. let e = c.before.before.before in (block_there (to_write t e.before), (omega (arith, e.if-n-k.false, e.requires.1.n_le_places), (put t c).upto)))
+    (λ c κs. let e = c.before.before in let q = to_write t e.before in let all = all_there q (band t e.before).numbers in ((joined-there q (band t e.before).numbers, omega (arith, all, q.below)), omega (arith, all, q.fits)))
+    (λ c κs. let e = c.before.before.before in (block_there (to_write t e.before), (omega (arith, e.if-n-k.false, e.requires.1.0), (put t c).upto)))
     (λ c. omega arith)
     (λ c κs. block_there (to_write t c.before.before.before.before.before.before))
     (λ c κs. search rules)
@@ -67,5 +67,5 @@ pub +write_many_spec : {M : Type 1} → statement M
     let e = c.before.before.before.before.before.before.before in
     let p = put t c.before.before.before.before.before in
     let i = c.others_in.ensures in
-    (omega (arith, e.if-n-k.false, e.requires.0), (omega (arith, e.requires.1.n_le_places), ((rest_below p i, rest_fits p i e.requires.1.rank_bound.1), (p.alone _, others_reached (band t e.before.before) _ c.back_by.ensures i)))))
+    (omega (arith, e.if-n-k.false, e.requires.0), (omega (arith, e.requires.1.0), ((rest_below p i, rest_fits p i e.requires.1.1.0.1), (p.alone _, others_reached (band t e.before.before) _ c.back_by.ensures i)))))
     (λ c. written (put t c.before.before.before.before.before.before) c.others_in.ensures c.block_of.ensures c.write_many.ensures)

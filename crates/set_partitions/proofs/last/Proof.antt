@@ -7,6 +7,6 @@ use Rattle.set_partitions.proofs.last.Tie as tie
 
 pub last_spec : {M : Type 1} → statement M
 last_spec = tie.close (tie.spec
-    (λ c κs. record { object_len_bound = search rules; k_in_bounds = search rules })
+    (λ c κs. search rules)
     (λ c. search rules)
     (λ c. edge_last c.write_end.ensures))

@@ -21,7 +21,8 @@ row-requires : tie.Need-row-requires invariant-loop decreases-loop
 row-requires c κs =
     let a = c.args in
     let l = c.loop-d in
-    let all : (a.n - a.k + 1) * (a.k + 1) ≤ capacity = (below a.n a.k (omega arith) (omega arith)).room (omega arith) in record { d_nonzero = (omega arith, room l.d (a.n - a.k + 1) (a.k + 1) capacity (omega arith) all); by_index = λ j h. all_fit a.n a.k l.d j (omega arith) (omega arith) (omega arith) (omega arith) (omega arith); filled = l.invariant.1.1 }
+    let all : (a.n - a.k + 1) * (a.k + 1) ≤ capacity = (below a.n a.k (omega arith) (omega arith)).room (omega arith) in
+    ((omega arith, room l.d (a.n - a.k + 1) (a.k + 1) capacity (omega arith) all), (λ j h. all_fit a.n a.k l.d j (omega arith) (omega arith) (omega arith) (omega arith) (omega arith), l.invariant.1.1))
 
 returns : tie.Need-returns invariant-loop decreases-loop
 returns c =
@@ -39,7 +40,7 @@ fill_spec =
     (λ c. omega arith)
     (λ c. omega arith)
     (λ c. omega arith)
-    (λ c. (omega arith, (omega arith, c.requires.filled)))
+    (λ c. (omega arith, (omega arith, c.requires.1)))
     row-requires
     (λ c. omega arith)
     (λ c. omega arith)

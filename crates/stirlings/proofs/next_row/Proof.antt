@@ -25,7 +25,7 @@ value c =
     next-number l.t a.w a.d l.left l.j (omega arith) l.invariant.1
 
 fitting : (c : tie.After-left-1 invariant-loop decreases-loop) → band (suc c.args.d) c.loop-j.j < 2 ^ 64
-fitting c = c.requires.by_index c.loop-j.j (omega arith)
+fitting c = c.requires.1.0 c.loop-j.j (omega arith)
 
 loop-again : tie.Need-loop-j-preserved invariant-loop decreases-loop
 loop-again c =
@@ -45,7 +45,7 @@ next_row_spec =
     (tie.spec
     invariant-loop
     decreases-loop
-    (λ c. let a = c.args in (omega arith, begin a.t.now a.w a.d c.requires.row))
+    (λ c. let a = c.args in (omega arith, begin a.t.now a.w a.d c.requires.1.1))
     (λ c. omega arith)
     (λ c. omega arith)
     (λ c. omega (arith, value c, fitting c))

@@ -22,24 +22,24 @@ value : (c : tie.After-left-1 invariant-loop decreases-loop) → let l = c.loop-
 value c =
     let a = c.args in
     let l = c.loop-j in
-    next_value a.t.now l.t a.w a.d l.left l.j l.above (omega arith) (omega arith) l.invariant.0 c.requires.filled l.invariant.1.1
+    next_value a.t.now l.t a.w a.d l.left l.j l.above (omega arith) (omega arith) l.invariant.0 c.requires.1.1 l.invariant.1.1
 
 fitting : (c : tie.After-left-1 invariant-loop decreases-loop) → band c.args.d c.loop-j.j < 2 ^ 64
-fitting c = c.requires.by_index c.loop-j.j (omega arith)
+fitting c = c.requires.1.0 c.loop-j.j (omega arith)
 
 loop-again : tie.Need-loop-j-preserved invariant-loop decreases-loop
 loop-again c =
     let a = c.args in
     let l = c.loop-j in
     let r = l.invariant.1.1 in
-    (omega arith, (omega arith, rw add-one (more a.t.now l.t a.d (a.d * a.w) l.left l.j (l.above + a.w) _ l.invariant.0 (omega (arith, r.same, c.requires.filled.size)) (value c) r)))
+    (omega arith, (omega arith, rw add-one (more a.t.now l.t a.d (a.d * a.w) l.left l.j (l.above + a.w) _ l.invariant.0 (omega (arith, r.same, c.requires.1.1.size)) (value c) r)))
 
 returns : tie.Need-returns invariant-loop decreases-loop
 returns c =
     let a = c.args in
     let l = c.loop-j in
     let through : l.j ≡ a.w = omega arith in
-    row-there a.t.now l.t a.w a.d l.left (omega arith) c.requires.filled (subst (Doing a.t.now l.t a.d (a.d * a.w) l.left) through l.invariant.1.1)
+    row-there a.t.now l.t a.w a.d l.left (omega arith) c.requires.1.1 (subst (Doing a.t.now l.t a.d (a.d * a.w) l.left) through l.invariant.1.1)
 
 pub row_spec : {M : Type 1} → statement M
 row_spec =

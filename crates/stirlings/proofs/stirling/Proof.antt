@@ -23,7 +23,8 @@ decreases-loop n k t₀ w rows d₀ t d = rows - d
 next-row-requires : tie.Need-next_row-requires invariant-loop decreases-loop
 next-row-requires c κs =
     let a = c.args in
-    let l = c.loop-d in record { w_bound = omega arith; by_index = λ j h. all_fit a.n a.k (suc l.d) j (omega arith) (omega arith) (omega arith) (omega arith) (omega arith); row = l.invariant.1 }
+    let l = c.loop-d in
+    (omega arith, (λ j h. all_fit a.n a.k (suc l.d) j (omega arith) (omega arith) (omega arith) (omega arith) (omega arith), l.invariant.1))
 
 returns-3 : tie.Need-returns invariant-loop decreases-loop
 returns-3 c =

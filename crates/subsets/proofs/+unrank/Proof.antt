@@ -28,27 +28,27 @@ claims t = (largest-top-reads.Asked, largest-top-reads.Learnt, unrank_below t, u
 
 unrank-requires : (t : ℕ) → unrank-lts.Need-unrank-requires (claims t) (unrank_at t) unrank.Post
 unrank-requires t c κs =
-    let a = c.before.before.before.before.before.args in
+    let a = c.args in
     let k = length a.object.now in
     let h : k - 1 < k = omega arith in
-    let found = c.before.before.largest-top.ensures in
-    let left = rest_below a.n c.before.before.largest-top.result.0 k (k - 1) a.rank (omega arith) found.0 found.1.1.0 found.1.1.1 in
+    let found = c.largest_top-found.ensures in
+    let left = rest_below a.n c.largest_top-found.result.0 k (k - 1) a.rank (omega arith) found.0 found.1.1.0 found.1.1.1 in
     rw (front_long, found.1.0) (omega arith, (omega arith, (omega (arith, left.0), left.1)))
 
 returns-2 : (t : ℕ) → unrank-lts.Need-returns (claims t) (unrank_at t) unrank.Post
 returns-2 t c =
-    let a = c.before.before.before.before.before.before.before.before.args in
-    let top = c.before.before.before.before.before.largest-top in
-    unranked a.n top.result.0 (length a.object.now - 1) a.rank a.object.now (omega arith) top.ensures.0 top.ensures.1.1.0 (rw top.ensures.1.0 at c.before.before.unrank.ensures)
+    let a = c.args in
+    let top = c.largest_top-found in
+    unranked a.n top.result.0 (length a.object.now - 1) a.rank a.object.now (omega arith) top.ensures.0 top.ensures.1.1.0 (rw top.ensures.1.0 at c.unrank.ensures)
 
 pub +unrank_spec : {M : Type 1} → statement M
 +unrank_spec = close μ-unrank λ t. unrank-lts.spec
     (claims t)
     (unrank_at t)
     unrank.Post
-    (λ c. unrank_none _ _ _ c.if-k-eq0.true c.requires.1.rank_bound)
+    (λ c. unrank_none _ _ _ c.if-k-eq0.true c.requires.1.1.1)
     (λ c. omega arith)
-    (λ c κs. record { n_le_places = omega arith; k_nonzero = omega arith })
+    (λ c κs. omega arith)
     (λ c. omega arith)
     (λ c. omega arith)
     (λ c. omega arith)

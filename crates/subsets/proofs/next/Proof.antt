@@ -24,7 +24,7 @@ next_spec =
     (tie.spec
     (λ c κs. search rules)
     (λ c. search rules)
-    (λ c. stops (lists _ _) (none_to_raise _ _ c.requires.1 (λ i h. c.number_to_raise-i.ensures.by_index i (omega arith))))
+    (λ c. stops (lists _ _) (none_to_raise _ _ c.requires.1 (λ i h. c.number_to_raise-i.ensures.1.0 i (omega arith))))
     (λ c. search rules)
     (λ c. omega (arith, (found c.before).high))
     (λ c. search rules)

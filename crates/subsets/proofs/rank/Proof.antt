@@ -26,14 +26,14 @@ loop-holds : tie.Need-loop-place-init invariant-loop decreases-loop
 loop-holds c =
     let x = c.args.object.now in
     let whole : rank_of c.args.n (length x) x ≡ count_before subset_before x (subsets c.args.n (length x)) = rw take-length in
-    (c.args.n, omega arith, omega arith, omega (arith, whole), rw (take-length x) c.requires.object_value)
+    (c.args.n, omega arith, omega arith, omega (arith, whole), rw (take-length x) c.requires.1.0)
 
 -- the number read, b, is the last of those that are left
 last : (c : tie.After-wide-below invariant-loop decreases-loop) → let at = c.loop-place in Parted at.invariant.0 at.place (at.place - 1) c.wide-below.result c.args.object.now
 last c = let at = c.loop-place in parted at.invariant.0 at.place (at.place - 1) c.wide-below.result _ at.invariant.4 (omega arith) (omega arith) c.wide-below.ensures
 
 fits : (c : tie.After-wide-below invariant-loop decreases-loop) → let at = c.loop-place in at.before + choose (c.wide-below.result - 1) at.place < 2 ^ 64
-fits c = let s = c.before.before.before.before.before in omega (arith, (last c).rank, below_count s.args.n (length s.args.object.now) s.args.object.now s.requires.object_value)
+fits c = let s = c.before.before.before.before.before in omega (arith, (last c).rank, below_count s.args.n (length s.args.object.now) s.args.object.now s.requires.1.0)
 
 loop-again : tie.Need-loop-place-preserved invariant-loop decreases-loop
 loop-again c = let p = last c.before in (c.wide-below.result - 1, omega (arith, p.high), omega arith, omega (arith, p.rank), p.front)

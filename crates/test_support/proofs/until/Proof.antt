@@ -21,8 +21,8 @@ until_spec =
     decreases-loop
     (λ c. search rules)
     (λ c. search rules)
-    (λ c. record { lower_bound = search (rules, counted); prefix_len = search (rules, counted) })
+    (λ c. search (rules, counted))
     (λ c. search rules)
     (λ c. search rules)
     (λ c. search rules)
-    (λ c. record { lower_bound = search (rules, counted); prefix_len = search (rules, counted) }))
+    (λ c. search (rules, counted)))

@@ -29,6 +29,6 @@ ways_spec =
     (λ c. omega (arith, ltb-true))
     (λ c. (search rules, simp length-set (omega (arith, ltb-true))))
     (λ c. search rules)
-    (λ c. record { upper_bound = search (rules, length-take-le, sym); value = search (rules, length-take-le, sym) })
+    (λ c. search (rules, length-take-le, sym))
     (λ c. search rules)
-    (λ c. record { upper_bound = search (rules, length-take-le, sym); value = search (rules, length-take-le, sym) }))
+    (λ c. search (rules, length-take-le, sym)))

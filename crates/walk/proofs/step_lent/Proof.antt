@@ -17,7 +17,7 @@ step_lent_spec =
     (λ c κs. search rules)
     (λ c. search rules)
     (λ c. search rules)
-    (λ c κs. let the_whole = both_pass _ _ (verdict c.rank_below.ensures c.in_default.is) in record { number_bound = the_whole.0; lists_bound = the_whole.1 })
+    (λ c κs. both_pass _ _ (verdict c.rank_below.ensures c.in_default.is))
     (λ c. search rules)
     (λ c. search rules)
     (λ c κs. search rules)

@@ -23,7 +23,7 @@ module _ (c : tie.In-Moved) where
 returns-3 : tie.Need-returns-then-number-eq0
 returns-3 c =
     let b = c.before.before.before.before.before in let back = b.in-Back.is in let e = b.before in
-    rw (ap (λ (s : Said). s.1) (c.call.ensures ∙ back_undone _ _ _ back (moved e) (called e).call-answer.ensures)) (numberless_so _ _ _ _ _ (start e).requires.number_bound (start e).requires.lists_bound (moved e) (none_off back c.if-number-eq0.true) (called e).call-answer.ensures)
+    rw (ap (λ (s : Said). s.1) (c.call.ensures ∙ back_undone _ _ _ back (moved e) (called e).call-answer.ensures)) (numberless_so _ _ _ _ _ (start e).requires.0 (start e).requires.1 (moved e) (none_off back c.if-number-eq0.true) (called e).call-answer.ensures)
 
 pub step_numbered_spec : {M : Type 1} → statement M
 step_numbered_spec =
@@ -32,15 +32,15 @@ step_numbered_spec =
     (λ c κs. search rules)
     (λ c. search rules)
     (λ c. search rules)
-    (λ c. let k = c.before.before.before in let s = k.before.before.before in stays_so _ _ _ _ _ s.requires.number_bound s.requires.lists_bound (not_moved k.call-answer.result c.in_default.in_default-own.keys2) k.call-answer.ensures)
+    (λ c. let k = c.before.before.before in let s = k.before.before.before in stays_so _ _ _ _ _ s.requires.0 s.requires.1 (not_moved k.call-answer.result c.in_default.in_default-own.keys2) k.call-answer.ensures)
     (λ c. search rules)
     (λ c. search rules)
     (λ c. search rules)
     (λ c. search rules)
-    (λ c. let e = c.before in goes_so _ _ _ _ _ (start e).requires.number_bound (start e).requires.lists_bound (moved e) (one_on_lem _ c.in_default-way.is) (called e).call-answer.ensures)
+    (λ c. let e = c.before in goes_so _ _ _ _ _ (start e).requires.0 (start e).requires.1 (moved e) (one_on_lem _ c.in_default-way.is) (called e).call-answer.ensures)
     (λ c κs. search rules)
     (λ c. search rules)
     returns-3
     (λ c. search rules)
     (λ c. search rules)
-    (λ c. let e = c.before.before in goes_so _ _ _ _ _ (start e).requires.number_bound (start e).requires.lists_bound (moved e) (one_off _ c.in-Back.is c.if-number-eq0.false) (called e).call-answer.ensures))
+    (λ c. let e = c.before.before in goes_so _ _ _ _ _ (start e).requires.0 (start e).requires.1 (moved e) (one_off _ c.in-Back.is c.if-number-eq0.false) (called e).call-answer.ensures))

@@ -18,5 +18,5 @@ rank_spec =
     (λ c κs. search rules)
     (λ c κs.
     let n = length c.args.object.now in
-    rw (c.all_ones-left.ensures.1 n (omega arith)) (omega (arith, total-ones n), (c.requires.object_value, c.all_permutations.ensures ∙ sym (multinomial_ones n))))
+    rw (c.all_ones-left.ensures.1 n (omega arith)) (omega (arith, total-ones n), (c.requires.1.0, c.all_permutations.ensures ∙ sym (multinomial_ones n))))
     (λ c. rw (← c.all_ones-left.ensures.1 (length c.args.object.now) (omega arith)) c.rank_of.ensures))

@@ -49,4 +49,4 @@ unrank_spec =
     (λ c. omega arith)
     loop-again
     (λ c. c.loop-i.invariant.0)
-    (λ c. let l = c.loop-i in rw l.invariant.0 at (written_all (omega arith) (rw l.invariant.0 c.requires.rank_bound) l.invariant.1)))
+    (λ c. let l = c.loop-i in rw l.invariant.0 at (written_all (omega arith) (rw l.invariant.0 c.requires.1) l.invariant.1)))

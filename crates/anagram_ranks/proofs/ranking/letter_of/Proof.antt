@@ -52,4 +52,4 @@ letter_of_spec =
     (λ c. let e = c.before.before in omega (arith, (more e).1, total-take-le (start e.before).args.left.now (e.loop-a.a + 1 + 1)))
     (λ c. omega (arith, (more c.before.before).0))
     (λ c. let e = c.before.before in omega (arith, (more e).0, (more e).1, through e.before))
-    (λ c. record { upper_bound = omega (arith, through c.before); m_bound = omega (arith, through c.before); rank_bound = omega (arith, through c.before) }))
+    (λ c. omega (arith, through c.before)))

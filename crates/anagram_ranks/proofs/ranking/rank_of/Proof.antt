@@ -31,7 +31,7 @@ module _ (c : tie.In-loop-i invariant-loop decreases-loop) where
   here = let l = c.loop-i in turn l.left _ l.i c.loop-i-test.true l.invariant.1.1.0
 
   short : length start.args.object.now ≤ places
-  short = omega (arith, long start.args.left.now start.args.object.now start.requires.object_value)
+  short = omega (arith, long start.args.left.now start.args.object.now start.requires.1.0)
 
 -- the front with this letter, once the words in front of it are counted
 read_on : (c : tie.After-earlier-rank invariant-loop decreases-loop) {left : List ℕ} → let e = c.before.before.before in let l = e.loop-i in let a = (start e).args in left ≡ one_less l.left (get_or a.object.now l.i 0 - 1) → Front a.left.now (take (l.i + 1) a.object.now) (l.rank + c.earlier-rank.result) left
@@ -48,14 +48,14 @@ rank_of_spec =
     (tie.spec
     invariant-loop
     decreases-loop
-    (λ c. (omega arith, (c.requires.all_value, (c.requires.object_value, no_front _))))
+    (λ c. (omega arith, (c.requires.1.1, (c.requires.1.0, no_front _))))
     (λ c. omega arith)
     (λ c. omega (arith, c.shared_slice_known-in-loop-i-1.given c.loop-i.i))
     (λ c. (here c.before).some)
     (λ c. omega arith)
     (λ c κs. let e = c.before.before in omega (arith, here e, short e))
-    (λ c. omega (arith, front_fits (read_on c refl), (start c.before.before).requires.all_value))
-    (λ c κs. let e = c.before.before.before.before in record { words_value = omega (arith, here e, short e); a_in_bounds = omega (arith, here e, short e) })
+    (λ c. omega (arith, front_fits (read_on c refl), (start c.before.before).requires.1.1))
+    (λ c κs. let e = c.before.before.before.before in omega (arith, here e, short e))
     (λ c. omega arith)
     (λ c. omega arith)
     loop-again

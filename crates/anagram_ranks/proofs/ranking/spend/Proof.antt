@@ -10,7 +10,8 @@ use Rattle.anagram_ranks.proofs.ranking.spend.Statement.{statement}
 use Rattle.anagram_ranks.proofs.ranking.spend.Tie as tie
 
 returns : tie.Need-returns
-returns c = let a = c.args in record { left_after = one_less-set a.left.now a.a; value = rw (c.share-begun.ensures, c.wide.ensures, c.requires.words_value.0, ← c.requires.words_value.1.0, one_less-set) (letter_share a.left.now a.a (omega arith)) }
+returns c = let a = c.args in
+    (one_less-set a.left.now a.a, rw (c.share-begun.ensures, c.wide.ensures, c.requires.0.0, ← c.requires.0.1.0, one_less-set) (letter_share a.left.now a.a (omega arith)))
 
 pub spend_spec : {M : Type 1} → statement M
 spend_spec =

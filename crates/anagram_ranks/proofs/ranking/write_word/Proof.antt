@@ -34,10 +34,10 @@ write_word_spec =
     decreases-loop
     (λ c. let a = c.args in let p = c.requires in (refl, write_start a.left.now a.object.now p.1.1.0 p.0.1 p.1.1.1))
     (λ c. omega arith)
-    (λ c κs. record { left_value = omega arith; rank_lt_words = omega arith })
+    (λ c κs. omega arith)
     (λ c κs. omega arith)
     (λ c. omega arith)
-    (λ c κs. record { words_value = omega (arith, found c.before.before); a_in_bounds = omega (arith, found c.before.before) })
+    (λ c κs. omega (arith, found c.before.before))
     (λ c. omega arith)
     (λ c. omega arith)
     (λ c. omega arith)

@@ -23,7 +23,7 @@ loop-again c =
     let start = c.before.before.before.before.before.before in
     let x = start.args.object.now in
     let here = sym c.precedes.ensures ∙ not-true _ c.loop-q-test.true-raw in
-    let on = not_there (λ i. precedes_by start.args.up (get_or x start.args.pivot 0) (get_or x i 0)) _ _ known.0.0 start.requires.pivot_value here in
+    let on = not_there (λ i. precedes_by start.args.up (get_or x start.args.pivot 0) (get_or x i 0)) _ _ known.0.0 start.requires.1 here in
     ((on, omega arith), beyond_more _ _ _ _ (omega arith) known.0.1 here known.1)
 
 pub last_beyond_spec : {M : Type 1} → statement M
@@ -40,4 +40,4 @@ last_beyond_spec =
     (λ c. omega arith)
     (λ c. omega arith)
     loop-again
-    (λ c. let known = c.loop-q.invariant in record { lower_bound = known.0; result_value = sym c.precedes.ensures ∙ not-false _ c.loop-q-test.false-raw; none_beyond = known.1 }))
+    (λ c. let known = c.loop-q.invariant in (known.0, (sym c.precedes.ensures ∙ not-false _ c.loop-q-test.false-raw, known.1))))

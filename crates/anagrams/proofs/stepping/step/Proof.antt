@@ -14,15 +14,16 @@ use Rattle.anagrams.proofs.stepping.step.Tie as tie
 last-beyond-requires : tie.Need-last_beyond-other-requires
 last-beyond-requires c κs =
     let e : c.tail_start-tail.result - 1 + 1 ≡ c.tail_start-tail.result = omega arith in
-    let there = c.tail_start-tail.ensures.upper_bound (omega arith) in record { pivot_in_bounds = rw e there.0; pivot_value = rw e there.1 }
+    let there = c.tail_start-tail.ensures.1 (omega arith) in
+    (rw e there.0, rw e there.1)
 
 returns-2 : tie.Need-returns
 returns-2 c = λ cs o.
     let start = c.tail_start-tail in
     let found = c.last_beyond-other in
     steps (lists cs)
-    (step_made _ start.result found.result (omega arith) (omega arith) found.ensures.lower_bound.1 _ cs _ _
-    found.ensures.result_value start.ensures.0 found.ensures.none_beyond c.swap.ensures c.turn_round.ensures o)
+    (step_made _ start.result found.result (omega arith) (omega arith) found.ensures.0.1 _ cs _ _
+    found.ensures.1.0 start.ensures.0 found.ensures.1.1 c.swap.ensures c.turn_round.ensures o)
 
 pub step_spec : {M : Type 1} → statement M
 step_spec =
@@ -30,7 +31,7 @@ step_spec =
     (tie.spec
     (λ c κs. search rules)
     (λ c. search rules)
-    (λ c. λ cs o. stops (lists cs) (spent_edge _ cs _ o (rw c.if-tail-eq0.true at c.tail_start-tail.ensures.spent)))
+    (λ c. λ cs o. stops (lists cs) (spent_edge _ cs _ o (rw c.if-tail-eq0.true at c.tail_start-tail.ensures.0)))
     (λ c. search rules)
     last-beyond-requires
     (λ c κs. search rules)

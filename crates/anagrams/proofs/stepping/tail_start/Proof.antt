@@ -19,7 +19,8 @@ decreases-loop object up p₀ p = p
 returns : tie.Need-returns-then-precedes invariant-loop decreases-loop
 returns c =
     let l = c.loop-p in
-    let e : l.p - 1 - 1 ≡ l.p - 2 = omega arith in record { spent = l.invariant.1; upper_bound = λ h. (omega arith, rw e (sym c.precedes.ensures ∙ c.if-precedes.true)) }
+    let e : l.p - 1 - 1 ≡ l.p - 2 = omega arith in
+    (l.invariant.1, λ h. (omega arith, rw e (sym c.precedes.ensures ∙ c.if-precedes.true)))
 
 pub tail_start_spec : {M : Type 1} → statement M
 tail_start_spec =
@@ -38,4 +39,4 @@ tail_start_spec =
     (λ c. omega arith)
     (λ c. omega arith)
     (λ c. let l = c.loop-p in (omega arith, spent_longer _ _ _ c.loop-p-test.true l.invariant.0 (sym c.precedes.ensures ∙ c.if-precedes.false) l.invariant.1))
-    (λ c. let e : c.loop-p.p - 1 ≡ 0 = omega arith in record { spent = rw e at c.loop-p.invariant.1; upper_bound = λ h. absurd (omega arith) }))
+    (λ c. let e : c.loop-p.p - 1 ≡ 0 = omega arith in (rw e at c.loop-p.invariant.1, λ h. absurd (omega arith))))

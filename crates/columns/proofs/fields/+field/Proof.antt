@@ -30,23 +30,23 @@ claims t = (field_below t, field.Post, digits-reads.Asked, digits-reads.Learnt)
 
 field_returns : (t : ℕ) → field-lts.Need-returns-then-part-eq0 (claims t) (field_at t) field.Post
 unfolding value_as
-field_returns t c = sym (field-none c.before.before.args.part.now c.if1.true)
+field_returns t c = sym (field-none c.args.part.now c.if-part-eq0.true)
 
 field_returns_2 : (t : ℕ) → field-lts.Need-returns-then-part-eq32 (claims t) (field_at t) field.Post
 field_returns_2 t c =
-    let x = c.before.before.before.before.before.before.args.part.now in
-    c.field.ensures ∙ ap field_of (rest_is x 1) ∙ sym (field-blank x c.before.before.if2.true)
+    let x = c.args.part.now in
+    c.field.ensures ∙ ap field_of (rest_is x 1) ∙ sym (field-blank x c.if-part-eq32.true)
 
 field_returns_3 : (t : ℕ) → field-lts.Need-returns-then-part-eq1 (claims t) (field_at t) field.Post
 unfolding value_as
-field_returns_3 t c = sym (field_lone c.before.before.before.before.before.before.before.args.part.now c.if4.true c.before.if3.true)
+field_returns_3 t c = sym (field_lone c.args.part.now c.if-part-eq1.true c.if-part-eq48.true)
 
 field_returns_4 : (t : ℕ) → field-lts.Need-returns-then-part-eq48 (claims t) (field_at t) field.Post
 unfolding value_as
-field_returns_4 t c = sym (field_leading c.before.before.before.before.before.before.before.args.part.now c.if4.false c.before.if3.true)
+field_returns_4 t c = sym (field_leading c.args.part.now c.if-part-eq1.false c.if-part-eq48.true)
 
 field_returns_5 : (t : ℕ) → field-lts.Need-returns (claims t) (field_at t) field.Post
-field_returns_5 t c = c.digits.ensures ∙ sym (field-number c.before.before.before.before.before.before.before.args.part.now c.before.before.before.before.before.if1.false c.before.before.before.if2.false c.before.if3.false)
+field_returns_5 t c = c.digits.ensures ∙ sym (field-number c.args.part.now c.if-part-eq0.false c.if-part-eq32.false c.if-part-eq48.false)
 
 pub +field_spec : {M : Type 1} → statement M
 +field_spec = close μ-field λ t. field-lts.spec

@@ -18,7 +18,7 @@ cycle : (c : tie.Then-rank-before) → let a = c.args in Placed a.n a.rank a.lon
 cycle c = let a = c.args in placed_cycle a.n a.rank a.longer a.shorter (omega arith)
 
 pair : (c : tie.Else-rank-before) → let a = c.args in let r = a.rank - (a.n - 1) * a.longer in Placed a.n a.rank a.longer a.shorter (a.n + r / a.shorter) (r % a.shorter)
-pair c = let a = c.args in placed_pair a.n a.rank a.longer a.shorter (omega arith) c.requires.rank_bound
+pair c = let a = c.args in placed_pair a.n a.rank a.longer a.shorter (omega arith) c.requires.1.0
 
 pub place_at_spec : {M : Type 1} → statement M
 place_at_spec =

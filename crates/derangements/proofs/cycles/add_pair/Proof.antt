@@ -31,10 +31,10 @@ module _ (c : tie.Start) where
   at = c.args.c - 1
 
   key : Among (suc m) c.args.c
-  key = omega (arith, c.requires.in_bounds, c.requires.le_c)
+  key = omega (arith, c.requires.0, c.requires.1.0)
 
   whole : length x ≡ suc (suc m)
-  whole = omega (arith, c.requires.in_bounds)
+  whole = omega (arith, c.requires.0)
 
   less : length x - 2 ≡ m
   less = omega (arith, whole)
@@ -44,7 +44,7 @@ module _ (c : tie.Start) where
 
   small : (i : ℕ) → i < length (take m x) → get_or (take m x) i 0 ≤ m
   small i h =
-      let d = deranged m (take m x) (subst (λ k. is_derangement k (take k x) ≡ true) less c.requires.object_value) in
+      let d = deranged m (take m x) (subst (λ k. is_derangement k (take k x) ≡ true) less c.requires.1.1) in
       subst (λ k. get_or (take m x) k 0 ≤ m) (omega arith) (d.by.values (suc i) (omega (arith, h, front))).upto
 
 -- the labels have moved
@@ -83,8 +83,8 @@ returns c =
     let e = c.before.before in
     let s = start (labels e) in
     let r = (labels e).relabel in
-    let n : end s + 1 ≡ suc (suc (m s)) = omega (arith, s.requires.in_bounds) in
-    let last : end s ≡ suc (m s) = omega (arith, s.requires.in_bounds) in
+    let n : end s + 1 ≡ suc (suc (m s)) = omega (arith, s.requires.0) in
+    let last : end s ≡ suc (m s) = omega (arith, s.requires.0) in
     ap₂ (λ v k. set (set (z e) (at s) v) k s.args.c) n last
     ∙ added (m s) (end s) s.args.c (x s) last (whole s) (key s) (l (labels e)) (r.auto.part ∙ front s) (λ i h. r.ensures i (rw (front s) h))
     (p e) (e.shift_right.auto.part ∙ mid_long (labels e)) (λ j h. e.shift_right.ensures j (rw (mid_long (labels e)) h))
@@ -99,7 +99,7 @@ add_pair_spec =
     (λ c. search rules)
     (λ c. search rules)
     (λ c. sym (front c.before.before))
-    (λ c κs. λ _ i h. let s = c.before.before in omega (arith, small s i h, s.requires.in_bounds))
+    (λ c κs. λ _ i h. let s = c.before.before in omega (arith, small s i h, s.requires.0))
     (λ c. omega (arith, key c.before.before.before.before.before))
     (λ c. omega (arith, key c.before.before.before.before.before))
     (λ c. omega (arith, w_long c.before.before))

@@ -30,10 +30,10 @@ module _ (c : tie.Start) where
   at = c.args.c - 1
 
   key : Among (suc m) c.args.c
-  key = omega (arith, c.requires.in_bounds, c.requires.le_c)
+  key = omega (arith, c.requires.0, c.requires.1.0)
 
   whole : length x ≡ suc (suc m)
-  whole = omega (arith, c.requires.in_bounds)
+  whole = omega (arith, c.requires.0)
 
 -- the places have moved
 module _ (c : tie.After-shift_left) where
@@ -66,8 +66,8 @@ returns c =
     let n : suc (suc (m s)) ≡ length (x s) = sym (whole s) in
     let less : length (x s) - 2 ≡ m s = omega (arith, whole s) in
     ap (λ k. take k (r.new.part ++ drop (m s) (z e))) less
-    ∙ dropped (m s) (end s) s.args.c (x s) (omega (arith, s.requires.in_bounds)) (whole s) (key s) (p e) (p_long e) (λ j h. e.shift_left.ensures j (rw (mid_long e) h))
-    r.new.part (drop (m s) (z e)) (r.auto.part ∙ front e) (λ i h. r.ensures i (rw (front e) h)) (s.requires.c_value ∙ ap (λ k. get_or (x s) (k - 1) 0) (whole s))
+    ∙ dropped (m s) (end s) s.args.c (x s) (omega (arith, s.requires.0)) (whole s) (key s) (p e) (p_long e) (λ j h. e.shift_left.ensures j (rw (mid_long e) h))
+    r.new.part (drop (m s) (z e)) (r.auto.part ∙ front e) (λ i h. r.ensures i (rw (front e) h)) (s.requires.1.1 ∙ ap (λ k. get_or (x s) (k - 1) 0) (whole s))
     ∙ ap (λ k. unpair k (x s)) n
 
 pub drop_pair_spec : {M : Type 1} → statement M

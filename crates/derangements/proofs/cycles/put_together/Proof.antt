@@ -24,12 +24,13 @@ module _ (c : tie.Start) where
 add-pair-requires : tie.Need-add_pair-requires
 add-pair-requires c κs =
     let s = c.before.before.before in
-    let h : n s - 1 < s.args.key = omega (arith, c.if-n-key.true, s.requires.in_bounds.0) in record { in_bounds = s.requires.in_bounds; le_c = (omega (arith, h), omega (arith, s.requires.keyed.upto, s.requires.in_bounds.0)); object_value = front_is (n s) (z s) s.args.key s.requires.in_bounds.0 h s.requires.keyed }
+    let h : n s - 1 < s.args.key = omega (arith, c.if-n-key.true, s.requires.0.0) in
+    (s.requires.0, ((omega (arith, h), omega (arith, s.requires.1.upto, s.requires.0.0)), front_is (n s) (z s) s.args.key s.requires.0.0 h s.requires.1))
 
 returns : tie.Need-returns-then-n-key
 returns c =
     let s = c.before.before.before.before.before.before in
-    put-pair (n s) (z s) c.add_pair.new.object s.args.key s.requires.in_bounds.0 (omega (arith, c.if-n-key.true, s.requires.in_bounds.0)) c.add_pair.ensures
+    put-pair (n s) (z s) c.add_pair.new.object s.args.key s.requires.0.0 (omega (arith, c.if-n-key.true, s.requires.0.0)) c.add_pair.ensures
 
 low : (c : tie.Else-n-key) → let s = c.before.before in s.args.key ≤ n s - 1
 low c = omega (arith, c.if-n-key.false)
@@ -44,7 +45,7 @@ at_place c =
 returns-2 : tie.Need-returns
 returns-2 c =
     let s = c.before.before.before in
-    put_cycle (n s) (z s) s.args.key c.place_of-at.result s.requires.in_bounds.0 refl s.requires.keyed (low c.before) (at_place c).0 (at_place c).1
+    put_cycle (n s) (z s) s.args.key c.place_of-at.result s.requires.0.0 refl s.requires.1 (low c.before) (at_place c).0 (at_place c).1
 
 pub put_together_spec : {M : Type 1} → statement M
 put_together_spec =
@@ -59,8 +60,8 @@ put_together_spec =
     returns
     (λ c. search rules)
     (λ c. sym (front c.before.before))
-    (λ c κs. let s = c.before.before in key_in_front (n s) (z s) s.args.key s.requires.in_bounds.0 refl (low c) s.requires.keyed)
+    (λ c κs. let s = c.before.before in key_in_front (n s) (z s) s.args.key s.requires.0.0 refl (low c) s.requires.1)
     (λ c. omega (arith, (at_place c).0))
-    (λ c. simp length-set (omega (arith, c.requires.in_bounds)))
+    (λ c. simp length-set (omega (arith, c.requires.0)))
     (λ c. search rules)
     returns-2)

@@ -20,7 +20,7 @@ module _ (c : tie.Start) where
   n = length x
 
   key : Among (n - 1) (get_or x (n - 1) 0)
-  key = last_value n x c.requires.in_bounds.0 c.requires.object_value
+  key = last_value n x c.requires.0.0 c.requires.1
 
   front : length (take (n - 1) x) ≡ n - 1
   front = length-take-le (n - 1) x (omega arith)
@@ -28,7 +28,7 @@ module _ (c : tie.Start) where
 returns : tie.Need-returns-then-object-c
 returns c =
     let s = c.before.before.before.before.before.before.before.before in
-    apart_pair (n s) (x s) c.drop_pair.new.object s.requires.in_bounds.0 s.requires.object_value c.if-object-c.true c.drop_pair.ensures
+    apart_pair (n s) (x s) c.drop_pair.new.object s.requires.0.0 s.requires.1 c.if-object-c.true c.drop_pair.ensures
 
 -- where the search found n
 at_place : (c : tie.After-place_of-at) → let s = c.before.before.before.before.before in (c.place_of-at.result < n s - 1) × (get_or (x s) c.place_of-at.result 0 ≡ n s)
@@ -40,7 +40,7 @@ at_place c =
 returns-2 : tie.Need-returns
 returns-2 c =
     let s = c.before.before.before.before.before in
-    apart_cycle (n s) (x s) c.place_of-at.result s.requires.in_bounds.0 s.requires.object_value c.if-object-c.false (at_place c).0 (at_place c).1
+    apart_cycle (n s) (x s) c.place_of-at.result s.requires.0.0 s.requires.1 c.if-object-c.false (at_place c).0 (at_place c).1
 
 pub take_apart_spec : {M : Type 1} → statement M
 take_apart_spec =
@@ -49,17 +49,17 @@ take_apart_spec =
     (λ c. search rules)
     (λ c. search rules)
     (λ c. search rules)
-    (λ c. omega (arith, key c.before.before, c.requires.in_bounds))
+    (λ c. omega (arith, key c.before.before, c.requires.0))
     (λ c. omega (arith, key c.before.before))
     (λ c. omega (arith, key c.before.before.before))
-    (λ c κs. let s = c.before.before.before.before.before in record { in_bounds = s.requires.in_bounds; le_c = omega (arith, key s, s.requires.in_bounds); c_value = refl })
+    (λ c κs. let s = c.before.before.before.before.before in (s.requires.0, (omega (arith, key s, s.requires.0), refl)))
     (λ c. search rules)
-    (λ c. let s = c.before.before.before.before.before.before.before.before in omega (arith, key s, s.requires.in_bounds))
+    (λ c. let s = c.before.before.before.before.before.before.before.before in omega (arith, key s, s.requires.0))
     (λ c. search rules)
     returns
     (λ c. search rules)
     (λ c. sym (front c.before.before.before.before))
-    (λ c κs. let s = c.before.before.before.before in last-stands (n s) (x s) s.requires.in_bounds.0 s.requires.object_value)
+    (λ c κs. let s = c.before.before.before.before in last-stands (n s) (x s) s.requires.0.0 s.requires.1)
     (λ c. omega (arith, (at_place c).0))
     (λ c. search rules)
     returns-2)

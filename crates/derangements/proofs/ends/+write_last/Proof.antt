@@ -45,7 +45,7 @@ module _ (t : ℕ) where
     w = set (set x (n - 2) n) (n - 2 + 1) (n - 2 + 1)
 
     two : 2 ≤ n
-    two = omega (arith, c.if-n-eq0.false, c.requires.1.fact)
+    two = omega (arith, c.if-n-eq0.false, c.requires.1.1)
 
     w_long : length w ≡ n
     w_long = length-set (set x (n - 2) n) (n - 2 + 1) (n - 2 + 1) ∙ length-set x (n - 2) n
@@ -72,10 +72,10 @@ pub +write_last_spec : {M : Type 1} → statement M
     (λ c. search rules)
     (λ c. edge_last (last_three_written c.args.object.now c.if-n-eq3.true))
     (λ c. omega (arith, two t c))
-    (λ c. omega (arith, c.requires.1.object_len_bound))
+    (λ c. omega (arith, c.requires.1.0))
     (λ c. omega (arith, two t c))
     (λ c. search rules)
-    (λ c. omega (arith, c.requires.1.object_len_bound))
+    (λ c. omega (arith, c.requires.1.0))
     (λ c. search rules)
     (λ c. simp length-set (omega (arith, two t c)))
     (λ c. omega (arith, w_long t c))
@@ -83,6 +83,6 @@ pub +write_last_spec : {M : Type 1} → statement M
     (λ c κs.
     let s = c.before.before.before.before in
     let e = c.before in
-    (omega (arith, s.requires.0, front t e, two t e), (omega (arith, front t e, s.requires.1.object_len_bound), λ one. e.if-n-eq3.false (omega (arith, front t e, one, two t e)))))
+    (omega (arith, s.requires.0, front t e, two t e), (omega (arith, front t e, s.requires.1.0), λ one. e.if-n-eq3.false (omega (arith, front t e, one, two t e)))))
     (λ c. let e = c.before.before.before.before in length_front (w t e) c.write_last.new.object (n t e - 2) c.write_last.auto.object ∙ w_long t e)
     (returns-3 t)

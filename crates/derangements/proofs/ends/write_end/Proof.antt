@@ -9,9 +9,9 @@ pub write_end_spec : {M : Type 1} → statement M
 write_end_spec =
     tie.close
     (tie.spec
-    (λ c κs. record { object_len_bound = search rules; fact = search rules })
+    (λ c κs. search rules)
     (λ c. search rules)
     (λ c. rw c.if-up.true (latest c.write_last.ensures))
-    (λ c κs. record { object_len_bound = search rules; fact = search rules })
+    (λ c κs. search rules)
     (λ c. search rules)
     (λ c. rw c.if-up.false (earliest c.write_first.ensures)))

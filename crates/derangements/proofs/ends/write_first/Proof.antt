@@ -16,7 +16,7 @@ returns-2 c =
     let s = c.before.before.before.before.before.before in
     let x = s.args.object.now in
     let some = c.if-object-eq0.false in
-    edge_first (first_written (length x) x _ (omega (arith, some, s.requires.fact)) refl (refilled x (length x - 1) 1 (omega (arith, some)) 2 c.fill_up.ensures))
+    edge_first (first_written (length x) x _ (omega (arith, some, s.requires.1)) refl (refilled x (length x - 1) 1 (omega (arith, some)) 2 c.fill_up.ensures))
 
 pub write_first_spec : {M : Type 1} → statement M
 write_first_spec =
@@ -27,6 +27,6 @@ write_first_spec =
     (λ c. search rules)
     (λ c. simp length-set (omega arith))
     (λ c. let x = c.args.object.now in sym (front_long x (length x - 1) 1 (omega (arith, c.if-object-eq0.false))))
-    (λ c κs. let x = c.args.object.now in rw (front_long x (length x - 1) 1 (omega (arith, c.if-object-eq0.false))) (omega (arith, c.requires.object_len_bound)))
+    (λ c κs. let x = c.args.object.now in rw (front_long x (length x - 1) 1 (omega (arith, c.if-object-eq0.false))) (omega (arith, c.requires.0)))
     (λ c. let x = c.args.object.now in same-long x (length x - 1) 1 (omega (arith, c.if-object-eq0.false)) c.fill_up.new.part c.fill_up.auto.part)
     returns-2)

@@ -44,7 +44,7 @@ claims t = (take-apart-reads.Asked, take-apart-reads.Learnt, left-of-reads.Asked
 
 module _ (t : ℕ) where
   two : (c : step-lts.Else-object-eq0 (claims t) (step_at t) step.Post) → 2 ≤ length c.args.object.now
-  two c = let s = c.before.before in two-places (length s.args.object.now) s.args.object.now s.requires.1.object_value c.if-object-eq0.false
+  two c = let s = c.before.before in two-places (length s.args.object.now) s.args.object.now s.requires.1.1 c.if-object-eq0.false
 
   -- the key is taken off
   module _ (c : step-lts.After-left_of-left (claims t) (step_at t) step.Post) where
@@ -159,7 +159,7 @@ module _ (t : ℕ) where
   step-requires c κs =
       let p = c.before in
       let s = start p in
-      (omega (arith, s.requires.0, front p, small p), (omega (arith, front p, small p, s.requires.1.object_len_bound), subst₂ (λ k y. is_derangement k y ≡ true) (sym (front p ∙ is-left p)) (sym (at_left p)) (off p).keyed.object))
+      (omega (arith, s.requires.0, front p, small p), (omega (arith, front p, small p, s.requires.1.0), subst₂ (λ k y. is_derangement k y ≡ true) (sym (front p ∙ is-left p)) (sym (at_left p)) (off p).keyed.object))
 
 pub +step_spec : {M : Type 1} → statement M
 +step_spec = close μ-step λ t. step-lts.spec
@@ -167,16 +167,16 @@ pub +step_spec : {M : Type 1} → statement M
     (step_at t)
     step.Post
     (λ c. stays_empty c.args.up c.args.object.now c.if-object-eq0.true)
-    (λ c κs. let s = c.before.before.before in record { in_bounds = (two t c.before, s.requires.1.object_len_bound); object_value = s.requires.1.object_value })
+    (λ c κs. let s = c.before.before.before in ((two t c.before, s.requires.1.0), s.requires.1.1))
     (λ c κs. omega (arith, c.take_apart-key.auto.object, two t c.before.before.before.before))
     (λ c. omega (arith, small t c, z_long t c))
     (λ c. sym (front t c.before))
     (step-requires t)
     (λ c. search rules)
     (λ c. search rules)
-    (λ c κs. let e = c.before.before.before.before in let p = place t e in ((omega (arith, w_long t e, more t p), omega (arith, w_long t e, (start t p).requires.1.object_len_bound)), ready t e c.in_default.is))
+    (λ c κs. let e = c.before.before.before.before in let p = place t e in ((omega (arith, w_long t e, more t p), omega (arith, w_long t e, (start t p).requires.1.0)), ready t e c.in_default.is))
     (λ c. c.turn.auto.object ∙ w_long t c.before.before.before.before.before.before.before)
     (returns-2 t)
-    (λ c κs. let e = c.before.before.before.before in let p = place t e in record { in_bounds = (omega (arith, w_long t e, more t p), omega (arith, w_long t e, (start t p).requires.1.object_len_bound)); keyed = keyed t e c.in-Moved.is })
+    (λ c κs. let e = c.before.before.before.before in let p = place t e in ((omega (arith, w_long t e, more t p), omega (arith, w_long t e, (start t p).requires.1.0)), keyed t e c.in-Moved.is))
     (λ c. c.put_together.auto.object ∙ w_long t c.before.before.before.before.before.before.before)
     (returns-3 t)

@@ -29,6 +29,6 @@ returns c =
 
 pub step_object_spec : {M : Type 1} → statement M
 step_object_spec = tie.close (tie.spec
-    (λ c κs. record { object_len_bound = search rules; object_value = search rules })
+    (λ c κs. search rules)
     (λ c. search rules)
     returns)

@@ -27,7 +27,7 @@ module _ (c : tie.Start) where
   n = length z
 
   here : Turns c.args.up n c.args.key (take (left_of n c.args.key) z)
-  here = turns c.args.up n c.args.key z c.requires.in_bounds.0 c.requires.keyed
+  here = turns c.args.up n c.args.key z c.requires.0.0 c.requires.1.0
 
 -- no key beyond
 returns : tie.Need-returns-then-not-can_go
@@ -35,7 +35,7 @@ returns c =
     let s = c.before.before.before.before.before.before.before in
     let t = c.before.before.before.before in
     let stays : goes s.args.up (n s) s.args.key ≡ false = sym t.can_go.ensures ∙ not-true t.can_go.result t.if-not-can_go.true-raw in
-    (c.put_together.ensures, (here s).edge stays s.requires.edge)
+    (c.put_together.ensures, (here s).edge stays s.requires.1.1)
 
 -- the key beside it
 module _ (c : tie.After-left_of-left) where
@@ -61,7 +61,7 @@ module _ (c : tie.After-left_of-left) where
       (omega (arith, b.0, key), omega (arith, b.1, key), λ one. b.2 (ap (left_of (n start)) (sym key) ∙ sym c.left_of-left.ensures ∙ one))
 
   small : left < n start
-  small = omega (arith, c.left_of-left.ensures, left_below (n start) moved start.requires.in_bounds.0)
+  small = omega (arith, c.left_of-left.ensures, left_below (n start) moved start.requires.0.0)
 
   front : length (take left (z start)) ≡ left
   front = length-take-le left (z start) (omega (arith, small))
@@ -97,21 +97,21 @@ returns-2 c =
     let key = p.beside-moved.ensures in
     let whole : join (length (w e)) (moved p) (take (left_of (length (w e)) (moved p)) (w e)) ≡ join (n s) (moved p) (part e) = rw (w_long e, again e) in
     subst (Beside (up p) (derangements (n s)) (join (n s) s.args.key (take (left_of (n s) s.args.key) (z s)))) (sym (c.put_together-2.ensures ∙ whole ∙ ap (λ k. join (n s) k (part e)) key))
-    ((here s).seam (part e) (can p) s.requires.edge (subst (λ k. Edge (not (up p)) (derangements (left_of (n s) k)) (part e)) key (edge e)))
+    ((here s).seam (part e) (can p) s.requires.1.1 (subst (λ k. Edge (not (up p)) (derangements (left_of (n s) k)) (part e)) key (edge e)))
 
 pub turn_spec : {M : Type 1} → statement M
 turn_spec =
     tie.close
     (tie.spec
     (λ c κs. search rules)
-    (λ c κs. let s = c.before.before.before.before in record { in_bounds = s.requires.in_bounds; keyed = s.requires.keyed })
+    (λ c κs. let s = c.before.before.before.before in (s.requires.0, s.requires.1.0))
     (λ c. search rules)
     returns
-    (λ c κs. let s = c.before.before.before in omega (arith, s.requires.in_bounds, s.requires.keyed))
+    (λ c κs. let s = c.before.before.before in omega (arith, s.requires.0, s.requires.1.0))
     (λ c κs. search rules)
     (λ c. omega (arith, small c))
     (λ c. sym (front c.before))
-    (λ c κs. let p = c.before in record { object_len_bound = omega (arith, front p, small p, (start p).requires.in_bounds); fact = λ one. (new p).2 (sym (front p) ∙ one) })
-    (λ c κs. let e = c.before.before.before in record { in_bounds = omega (arith, w_long e, (start (place e)).requires.in_bounds); keyed = keyed e })
+    (λ c κs. let p = c.before in (omega (arith, front p, small p, (start p).requires.0), λ one. (new p).2 (sym (front p) ∙ one)))
+    (λ c κs. let e = c.before.before.before in (omega (arith, w_long e, (start (place e)).requires.0), keyed e))
     (λ c. let e = c.before.before.before.before.before.before in c.put_together-2.auto.object ∙ w_long e)
     returns-2)

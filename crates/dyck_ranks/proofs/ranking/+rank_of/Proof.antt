@@ -45,11 +45,11 @@ module _ (t : ℕ) where
 
     -- the word in its parts
     parts : Cut start.args.n start.args.object.now c.inside_len-len.result
-    parts = cut start.args.n start.args.object.now start.requires.1.object_value c.if-n-eq0.false c.inside_len-len.ensures
+    parts = cut start.args.n start.args.object.now start.requires.1.0 c.if-n-eq0.false c.inside_len-len.ensures
 
     -- fewer branches have a number of words that fits, too
     fits : (j : ℕ) → j ≤ start.args.n → catalan_of j < 2 ^ 64
-    fits j h = lt_of_le_of_lt (catalan_mono h) start.requires.1.n_bound
+    fits j h = lt_of_le_of_lt (catalan_mono h) start.requires.1.1.1
 
     inside : c.inside_len-len.result + 2 ≤ length start.args.object.now
     inside = omega (arith, whole_long parts.parts)
@@ -67,16 +67,16 @@ module _ (t : ℕ) where
         ranked (parts node) inner.result outer.result node.if-n-eq0.left inner.ensures outer.ensures c.shorter_insides.ensures c.ways.ensures
 
     below : place < 2 ^ 64
-    below = let n = (start node).args.n in omega (arith, at_below (dyck_words n) place stands, counted n, (start node).requires.1.n_bound)
+    below = let n = (start node).args.n in omega (arith, at_below (dyck_words n) place stands, counted n, (start node).requires.1.1.1)
 
   rank-of-requires : rank-of-lts.Need-rank_of-inside_rank-requires (claims t) (rank_of_at t) rank-of.Post
   rank-of-requires c κs =
-      let n = c.before in let p = parts n in let fed = (start n).requires.1.object_len_bound in
+      let n = c.before in let p = parts n in let fed = (start n).requires.1.1.0 in
       (omega (arith, p.within), (inner_word p, ((omega (arith, inside n, inside_part_long p.parts, fed.0), omega (arith, fed.1), inside-told p.parts refl fed.2), fits n _ (omega (arith, p.within)))))
 
   rank-of-requires-2 : rank-of-lts.Need-rank_of-rest_rank-requires (claims t) (rank_of_at t) rank-of.Post
   rank-of-requires-2 c κs =
-      let n = c.before.before.before in let p = parts n in let fed = (start n).requires.1.object_len_bound in
+      let n = c.before.before.before in let p = parts n in let fed = (start n).requires.1.1.0 in
       (omega arith, (outer_word p, ((omega (arith, rest_long p.parts, whole_long p.parts, fed.0), omega (arith, fed.1), rest_told p.parts fed.2), fits n _ (omega arith))))
 
   shorter-insides-requires : rank-of-lts.Need-shorter_insides-requires (claims t) (rank_of_at t) rank-of.Post
@@ -87,8 +87,8 @@ pub +rank_of_spec : {M : Type 1} → statement M
     (claims t)
     (rank_of_at t)
     rank-of.Post
-    (λ c. let s = c.before.before in empty_at c.if-n-eq0.true (long s.args.n s.args.object.now s.requires.1.object_value))
-    (λ c κs. let s = c.before.before in record { object_nonzero = (omega (arith, long s.args.n s.args.object.now s.requires.1.object_value), s.requires.1.object_len_bound.0, s.requires.1.object_len_bound.1); told = s.requires.1.object_len_bound.2 })
+    (λ c. let s = c.before.before in empty_at c.if-n-eq0.true (long s.args.n s.args.object.now s.requires.1.0))
+    (λ c κs. let s = c.before.before in ((omega (arith, long s.args.n s.args.object.now s.requires.1.0), s.requires.1.1.0.0, s.requires.1.1.0.1), s.requires.1.1.0.2))
     (λ c. omega (arith, inside t c))
     (λ c. omega (arith, inside t c))
     (λ c. omega arith)
@@ -96,12 +96,12 @@ pub +rank_of_spec : {M : Type 1} → statement M
     (λ c. omega arith)
     (λ c. omega arith)
     (λ c. omega (arith, inside t c))
-    (λ c. omega (arith, inside t c.before, (start t c.before).requires.1.object_len_bound.0))
+    (λ c. omega (arith, inside t c.before, (start t c.before).requires.1.1.0.0))
     (rank-of-requires t)
     (λ c. inside t c.before.before)
     (λ c. inside t c.before.before)
     (λ c. omega arith)
-    (λ c. let n = c.before.before.before in omega (arith, inside t n, (start t n).requires.1.object_len_bound.0))
+    (λ c. let n = c.before.before.before in omega (arith, inside t n, (start t n).requires.1.1.0.0))
     (rank-of-requires-2 t)
     (shorter-insides-requires t)
     (λ c κs. fits t c.before.before.before.before.before _ (omega arith))

@@ -58,7 +58,7 @@ module _ (t : ℕ) where
 
     -- fewer branches have a number of words that fits, too
     fits : (j : ℕ) → j ≤ start.args.n → catalan_of j < 2 ^ 64
-    fits j h = lt_of_le_of_lt (catalan_mono h) start.requires.1.n_bound
+    fits j h = lt_of_le_of_lt (catalan_mono h) start.requires.1.1.0
 
   -- the inside is written
   inside : (c : write-word-lts.After-write_word (claims t) (write_word_at t) write-word.Post) → let e = c.before.before in Laid (bytes e) (close_at e) c.write_word.new.object
@@ -67,15 +67,15 @@ module _ (t : ℕ) where
   returns : write-word-lts.Need-returns-then-n-eq0 (claims t) (write_word_at t) write-word.Post
   returns c =
       let s = c.before.before in let zeroth : s.args.rank ≡ 0 = omega (arith, ap catalan_of c.if-n-eq0.true, catalan_zero) in
-      subst (At (dyck_words s.args.n) s.args.object.now) (sym zeroth) (empty_at c.if-n-eq0.true s.requires.1.object_len)
+      subst (At (dyck_words s.args.n) s.args.object.now) (sym zeroth) (empty_at c.if-n-eq0.true s.requires.1.0)
 
   inside-size-requires : write-word-lts.Need-inside_size-j-requires (claims t) (write_word_at t) write-word.Post
   inside-size-requires c κs =
       let s = c.before.before in let whole : suc (s.args.n - 1) ≡ s.args.n = omega arith in
-      (rw whole s.requires.1.n_bound, rw whole s.requires.1.rank_bound)
+      (rw whole s.requires.1.1.0, rw whole s.requires.1.1.1)
 
   shorter-insides-requires : write-word-lts.Need-shorter_insides-requires (claims t) (write_word_at t) write-word.Post
-  shorter-insides-requires c κs = (omega arith, lt_of_le_of_lt (catalan_mono (omega arith)) c.requires.1.n_bound)
+  shorter-insides-requires c κs = (omega arith, lt_of_le_of_lt (catalan_mono (omega arith)) c.requires.1.1.0)
 
   write-word-requires : write-word-lts.Need-write_word-requires (claims t) (write_word_at t) write-word.Post
   write-word-requires c κs = let e = c.before in (omega arith, (omega (arith, inside-length (bytes e) (close_at e) (closes e)), (fits e _ (omega arith), (fair e).inside)))
@@ -101,7 +101,7 @@ pub +write_word_spec : {M : Type 1} → statement M
     (λ c. omega arith)
     (shorter-insides-requires t)
     (λ c. omega arith)
-    (λ c κs. lt_of_le_of_lt (catalan_mono (omega arith)) c.requires.1.n_bound)
+    (λ c κs. lt_of_le_of_lt (catalan_mono (omega arith)) c.requires.1.1.0)
     (λ c. (fair t c).rests)
     (λ c. (fair t c).rests)
     (λ c. omega arith)

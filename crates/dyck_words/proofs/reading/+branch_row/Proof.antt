@@ -56,8 +56,8 @@ branch_read t c = subst (BranchRead _ _) c.in_To-next.is c.branch-next.ensures
 
 branch_returns : (t : ℕ) → branch-lts.Need-returns-in_default (branch_calls t) (branch_at t) branch.Post
 branch_returns t c =
-    let s = c.before.before.before.before in
-    branch_fails s.args.object.now s.args.at s.requires.1 (subst (RowRead _ _) c.enum_told.given.1 c.before.before.row.ensures)
+    let s = c.before.before.before in
+    branch_fails s.args.object.now s.args.at s.requires.1 (subst (RowRead _ _) c.in_default.is c.row.ensures)
 
 pub +branch_row_spec : {M : Type 1} → statement M
 +branch_row_spec =

@@ -13,5 +13,5 @@ inside_len_spec =
     (tie.spec
     (λ c. search rules)
     (λ c. search rules)
-    (λ c. let start = c.before in omega (arith, start.requires.told.low (start.args.left - 1)))
-    (λ c i u e. told-inside i u c.requires.told e))
+    (λ c. let start = c.before in omega (arith, start.requires.1.low (start.args.left - 1)))
+    (λ c i u e. told-inside i u c.requires.1 e))

@@ -49,7 +49,7 @@ module _ (t : ℕ) where
     len = c.inside_len-len.result
 
     parts : (i : Tree) × (r : Tree) × Parts start.args.object.now len i r
-    parts = parted start.requires.1.object_value.0 start.requires.1.object_value.1 c.if-object-eq0.false c.inside_len-len.ensures
+    parts = parted start.requires.1.0.0 start.requires.1.0.1 c.if-object-eq0.false c.inside_len-len.ensures
 
   -- the rest was asked to move, and does not
   module _ (c : step-lts.In-End (claims t) (step_at t) step.Post) where
@@ -134,12 +134,12 @@ pub +step_spec : {M : Type 1} → statement M
     (step_at t)
     step.Post
     (returns t)
-    (λ c κs. let start = c.before.before in record { object_nonzero = (omega arith, start.requires.1.object_len_bound.0, start.requires.1.object_len_bound.1); told = start.requires.1.object_len_bound.2 })
+    (λ c κs. let start = c.before.before in ((omega arith, start.requires.1.1.0, start.requires.1.1.1), start.requires.1.1.2))
     (λ c. omega (arith, whole_long (parts t c).2))
     (λ c. omega (arith, whole_long (parts t c).2))
     (λ c. omega (arith, whole_long (parts t c).2))
     (λ c. search rules)
-    (λ c. omega (arith, whole_long (parts t c.before).2, (start t c.before).requires.1.object_len_bound.0))
+    (λ c. omega (arith, whole_long (parts t c.before).2, (start t c.before).requires.1.1.0))
     (step-requires t)
     (λ c. search rules)
     (λ c. search rules)
@@ -149,7 +149,7 @@ pub +step_spec : {M : Type 1} → statement M
     (λ c. omega arith)
     (λ c. omega arith)
     (λ c. omega (arith, whole_long (rest_stays t c).0))
-    (λ c. let n = node_of t c.before in omega (arith, whole_long (parts t n).2, (start t n).requires.1.object_len_bound.0))
+    (λ c. let n = node_of t c.before in omega (arith, whole_long (parts t n).2, (start t n).requires.1.1.0))
     (step-requires-2 t)
     (λ c. search rules)
     (λ c. search rules)

@@ -15,22 +15,22 @@ use Rattle.dyck_words.proofs.stepping.step_word.Tie as tie
 
 -- the word fits into the table
 short : (c : tie.Start) → length c.args.object.now ≤ longest_object
-short c = omega (arith, long c.args.n c.args.object.now c.requires.object_value)
+short c = omega (arith, long c.args.n c.args.object.now c.requires.1)
 
 spelled : (c : tie.Start) → word (parse c.args.object.now) ≡ c.args.object.now
-spelled c = (dyck_cases c.args.n c.args.object.now c.requires.object_value).spelled
+spelled c = (dyck_cases c.args.n c.args.object.now c.requires.1).spelled
 
 returns : tie.Need-returns
 returns c =
     let start = c.before.before.before.before.before.before.before in
     let call = c.step in
-    said start.args.up start.args.n start.args.object.now start.requires.object_value call.result call.new.object (call.ensures (parse start.args.object.now) (sym (spelled start)))
+    said start.args.up start.args.n start.args.object.now start.requires.1 call.result call.new.object (call.ensures (parse start.args.object.now) (sym (spelled start)))
 
 pub step_word_spec : {M : Type 1} → statement M
 step_word_spec =
     tie.close
     (tie.spec
     (λ c κs. short c.before)
-    (λ c κs. let start = c.before.before.before.before in record { object_value = (parse start.args.object.now, sym (spelled start)); object_len_bound = (omega arith, short start, c.row_lengths-rows.ensures) })
+    (λ c κs. let start = c.before.before.before.before in ((parse start.args.object.now, sym (spelled start)), (omega arith, short start, c.row_lengths-rows.ensures)))
     (λ c. search rules)
     returns)

@@ -17,70 +17,73 @@ last_spec =
     (λ c. search rules)
     (λ c κs.
     let s = c.before.before.before.before in
-    let t = long_k 1 _ _ s.args.object.now c.in-1.is s.requires.lists_value s.requires.object_len refl in
-    (n_within _ _ _ t.bounds, leb-true _ _ (t.some s.requires.nonzero)))
+    let t = long_k 1 _ _ s.args.object.now c.in-1.is s.requires.0 s.requires.1.1 refl in
+    (n_within _ _ _ t.bounds, leb-true _ _ (t.some s.requires.1.0)))
     (λ c κs.
     let s = c.before.before.before.before in
-    let t = handed 2 _ _ c.in-2.is s.requires.lists_value in
-    rw (← get_or-map (λ x. x.now) s.args.t2 0 _) (letters_fit t, s.requires.object_len ∙ t.long))
+    let t = handed 2 _ _ c.in-2.is s.requires.0 in
+    rw (← get_or-map (λ x. x.now) s.args.t2 0 _) (letters_fit t, s.requires.1.1 ∙ t.long))
     (λ c κs.
     let s = c.before.before.before.before in
-    let t = long_n 3 _ _ s.args.object.now c.in-3.is s.requires.lists_value s.requires.object_len refl in
+    let t = long_n 3 _ _ s.args.object.now c.in-3.is s.requires.0 s.requires.1.1 refl in
     n_within _ _ _ t.bounds)
     (λ c κs.
     let s = c.before.before.before.before in
-    let t = long_n 4 _ _ s.args.object.now c.in-4.is s.requires.lists_value s.requires.object_len refl in record { object_len_bound = n_within _ _ _ t.bounds; k_in_bounds = shared _ _ _ (t.some s.requires.nonzero) })
+    let t = long_n 4 _ _ s.args.object.now c.in-4.is s.requires.0 s.requires.1.1 refl in
+    (n_within _ _ _ t.bounds, shared _ _ _ (t.some s.requires.1.0)))
     (λ c κs.
     let s = c.before.before.before.before in
-    let t = long_k 5 _ _ s.args.object.now c.in-5.is s.requires.lists_value s.requires.object_len refl in
-    let p = shared _ _ _ (t.some s.requires.nonzero) in record { n_le_places = (n_within _ _ _ t.bounds, p.0); n_value = p.1 })
+    let t = long_k 5 _ _ s.args.object.now c.in-5.is s.requires.0 s.requires.1.1 refl in
+    let p = shared _ _ _ (t.some s.requires.1.0) in
+    ((n_within _ _ _ t.bounds, p.0), p.1))
     (λ c κs.
     let s = c.before.before.before.before in
-    let t = handed 6 _ _ c.in-6.is s.requires.lists_value in
-    s.requires.object_len ∙ t.long)
+    let t = handed 6 _ _ c.in-6.is s.requires.0 in
+    s.requires.1.1 ∙ t.long)
     (λ c κs.
     let s = c.before.before.before.before in
-    let t = long_n 7 _ _ s.args.object.now c.in-7.is s.requires.lists_value s.requires.object_len refl in record { object_len_bound = n_within _ _ _ t.bounds; fact = other_than _ 1 (t.some s.requires.nonzero) })
+    let t = long_n 7 _ _ s.args.object.now c.in-7.is s.requires.0 s.requires.1.1 refl in
+    (n_within _ _ _ t.bounds, other_than _ 1 (t.some s.requires.1.0)))
     (λ c. search rules)
     (λ c.
     let m = c.before.before.before.before in
     let s = m.before.before.before in
-    let t = long_k 1 _ _ s.args.object.now m.in-1.is s.requires.lists_value s.requires.object_len refl in
+    let t = long_k 1 _ _ s.args.object.now m.in-1.is s.requires.0 s.requires.1.1 refl in
     rw t.lists c.last.ensures)
     (λ c. search rules)
     (λ c.
     let m = c.before.before.before.before in
     let s = m.before.before.before in
-    let t = handed 2 _ _ m.in-2.is s.requires.lists_value in
+    let t = handed 2 _ _ m.in-2.is s.requires.0 in
     rw t.lists (rw (← get_or-map (λ x. x.now) s.args.t2 0 _) at c.last-in-2.ensures))
     (λ c. search rules)
     (λ c.
     let m = c.before.before.before.before in
     let s = m.before.before.before in
-    let t = long_n 3 _ _ s.args.object.now m.in-3.is s.requires.lists_value s.requires.object_len refl in
+    let t = long_n 3 _ _ s.args.object.now m.in-3.is s.requires.0 s.requires.1.1 refl in
     rw t.lists c.last-in-3.ensures)
     (λ c. search rules)
     (λ c.
     let m = c.before.before.before.before in
     let s = m.before.before.before in
-    let t = long_n 4 _ _ s.args.object.now m.in-4.is s.requires.lists_value s.requires.object_len refl in
+    let t = long_n 4 _ _ s.args.object.now m.in-4.is s.requires.0 s.requires.1.1 refl in
     rw t.lists c.last-in-4.ensures)
     (λ c. search rules)
     (λ c.
     let m = c.before.before.before.before in
     let s = m.before.before.before in
-    let t = long_k 5 _ _ s.args.object.now m.in-5.is s.requires.lists_value s.requires.object_len refl in
+    let t = long_k 5 _ _ s.args.object.now m.in-5.is s.requires.0 s.requires.1.1 refl in
     rw t.lists c.last-in-5.ensures)
     (λ c. search rules)
     (λ c.
     let m = c.before.before.before.before in
     let s = m.before.before.before in
-    let t = handed 6 _ _ m.in-6.is s.requires.lists_value in
+    let t = handed 6 _ _ m.in-6.is s.requires.0 in
     rw t.lists c.last-in-6.ensures)
     (λ c. search rules)
     (λ c.
     let m = c.before.before.before.before in
     let s = m.before.before.before in
-    let t = long_n 7 _ _ s.args.object.now m.in-7.is s.requires.lists_value s.requires.object_len refl in
+    let t = long_n 7 _ _ s.args.object.now m.in-7.is s.requires.0 s.requires.1.1 refl in
     rw t.lists c.last-in-7.ensures)
-    (λ c. absurd (has_arm _ _ c.requires.lists_value c.in_default.in_default-own.rest)))
+    (λ c. absurd (has_arm _ _ c.requires.0 c.in_default.in_default-own.rest)))

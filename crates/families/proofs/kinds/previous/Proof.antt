@@ -19,13 +19,17 @@ previous_spec =
     (λ c κs. search rules)
     (λ c κs. search rules)
     (λ c κs.
-    let s = c.before.before.before in let t = object_n 4 _ _ _ c.in-4.is s.requires refl in record { object_len_bound = n_within _ _ _ t.bounds; object_value = sym (t.objects _) ∙ s.requires })
+    let s = c.before.before.before in let t = object_n 4 _ _ _ c.in-4.is s.requires refl in
+    (n_within _ _ _ t.bounds, sym (t.objects _) ∙ s.requires))
     (λ c κs.
-    let s = c.before.before.before in let t = object_k 5 _ _ _ c.in-5.is s.requires refl in record { n_le_places = n_within _ _ _ t.bounds; object_value = sym (t.objects _) ∙ s.requires })
+    let s = c.before.before.before in let t = object_k 5 _ _ _ c.in-5.is s.requires refl in
+    (n_within _ _ _ t.bounds, sym (t.objects _) ∙ s.requires))
     (λ c κs.
-    let s = c.before.before.before in let t = object 6 _ _ _ c.in-6.is s.requires in record { n_le_branches = n_within _ _ _ t.bounds; object_value = sym (t.objects _) ∙ s.requires })
+    let s = c.before.before.before in let t = object 6 _ _ _ c.in-6.is s.requires in
+    (n_within _ _ _ t.bounds, sym (t.objects _) ∙ s.requires))
     (λ c κs.
-    let s = c.before.before.before in let t = object_n 7 _ _ _ c.in-7.is s.requires refl in record { object_len_bound = n_within _ _ _ t.bounds; object_value = sym (t.objects _) ∙ s.requires })
+    let s = c.before.before.before in let t = object_n 7 _ _ _ c.in-7.is s.requires refl in
+    (n_within _ _ _ t.bounds, sym (t.objects _) ∙ s.requires))
     (λ c. search rules)
     (λ c.
     let m = c.before.before.before.before in let t = object_k 1 _ _ _ m.in-1.is m.requires refl in

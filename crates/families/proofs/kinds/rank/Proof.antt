@@ -14,7 +14,7 @@ use Rattle.families.proofs.kinds.rank.Tie as tie
 returns : tie.Need-returns-in-1
 unfolding rank_of
 returns c =
-    let t = object_k 1 _ _ _ c.in-1.is c.requires.object_value refl in
+    let t = object_k 1 _ _ _ c.in-1.is c.requires.0 refl in
     rw (t.orders, t.lists) c.rank.ensures
 
 -- kind 2
@@ -22,7 +22,7 @@ returns c =
 returns-2 : tie.Need-returns-in-2
 unfolding rank_of
 returns-2 c =
-    let s = c.before.before.before.before in let t = object 2 _ _ _ c.in-2.is s.requires.object_value in
+    let s = c.before.before.before.before in let t = object 2 _ _ _ c.in-2.is s.requires.0 in
     rw (t.orders, t.lists) (rw (← get_or-map (λ x. x.now) s.args.t2 0 _) at c.rank-in-2.ensures)
 
 -- kind 3
@@ -30,7 +30,7 @@ returns-2 c =
 returns-3 : tie.Need-returns-in-3
 unfolding rank_of
 returns-3 c =
-    let t = object_n 3 _ _ _ c.in-3.is c.requires.object_value refl in
+    let t = object_n 3 _ _ _ c.in-3.is c.requires.0 refl in
     rw (t.orders, t.lists) c.rank-in-3.ensures
 
 -- kind 4
@@ -38,7 +38,7 @@ returns-3 c =
 returns-4 : tie.Need-returns-in-4
 unfolding rank_of
 returns-4 c =
-    let t = object_n 4 _ _ _ c.in-4.is c.requires.object_value refl in
+    let t = object_n 4 _ _ _ c.in-4.is c.requires.0 refl in
     rw (t.orders, t.lists) c.rank-in-4.ensures
 
 -- kind 5
@@ -46,7 +46,7 @@ returns-4 c =
 returns-5 : tie.Need-returns-in-5
 unfolding rank_of
 returns-5 c =
-    let t = object_k 5 _ _ _ c.in-5.is c.requires.object_value refl in
+    let t = object_k 5 _ _ _ c.in-5.is c.requires.0 refl in
     rw (t.orders, t.lists) c.rank-in-5.ensures
 
 -- kind 6
@@ -54,7 +54,7 @@ returns-5 c =
 returns-6 : tie.Need-returns-in-6
 unfolding rank_of
 returns-6 c =
-    let t = object 6 _ _ _ c.in-6.is c.requires.object_value in
+    let t = object 6 _ _ _ c.in-6.is c.requires.0 in
     rw (t.orders, t.lists) c.rank-in-6.ensures
 
 -- kind 7
@@ -62,7 +62,7 @@ returns-6 c =
 returns-7 : tie.Need-returns-in-7
 unfolding rank_of
 returns-7 c =
-    let t = object_n 7 _ _ _ c.in-7.is c.requires.object_value refl in
+    let t = object_n 7 _ _ _ c.in-7.is c.requires.0 refl in
     rw (t.orders, t.lists) c.rank-in-7.ensures
 
 pub rank_spec : {M : Type 1} → statement M
@@ -71,20 +71,26 @@ rank_spec =
     (tie.spec
     (λ c. search rules)
     (λ c κs.
-    let s = c.before.before.before in let t = object_k 1 _ _ _ c.in-1.is s.requires.object_value refl in record { n_le_places = n_within _ _ _ t.bounds; object_value = sym (t.objects _) ∙ s.requires.object_value; object_bound = rw t.counted at s.requires.lists_bound })
+    let s = c.before.before.before in let t = object_k 1 _ _ _ c.in-1.is s.requires.0 refl in
+    (n_within _ _ _ t.bounds, (sym (t.objects _) ∙ s.requires.0, rw t.counted at s.requires.1)))
     (λ c κs.
-    let s = c.before.before.before in let t = object 2 _ _ _ c.in-2.is s.requires.object_value in
-    rw (← get_or-map (λ x. x.now) s.args.t2 0 _) (letters_fit t, (t.short, (sym (t.objects _) ∙ s.requires.object_value, rw t.counted at s.requires.lists_bound))))
+    let s = c.before.before.before in let t = object 2 _ _ _ c.in-2.is s.requires.0 in
+    rw (← get_or-map (λ x. x.now) s.args.t2 0 _) (letters_fit t, (t.short, (sym (t.objects _) ∙ s.requires.0, rw t.counted at s.requires.1))))
     (λ c κs.
-    let s = c.before.before.before in let t = object_n 3 _ _ _ c.in-3.is s.requires.object_value refl in record { object_len_bound = n_within _ _ _ t.bounds; object_value = sym (t.objects _) ∙ s.requires.object_value; object_bound = rw t.counted at s.requires.lists_bound })
+    let s = c.before.before.before in let t = object_n 3 _ _ _ c.in-3.is s.requires.0 refl in
+    (n_within _ _ _ t.bounds, (sym (t.objects _) ∙ s.requires.0, rw t.counted at s.requires.1)))
     (λ c κs.
-    let s = c.before.before.before in let t = object_n 4 _ _ _ c.in-4.is s.requires.object_value refl in record { object_len_bound = n_within _ _ _ t.bounds; object_value = sym (t.objects _) ∙ s.requires.object_value; k_bound = rw t.counted at s.requires.lists_bound })
+    let s = c.before.before.before in let t = object_n 4 _ _ _ c.in-4.is s.requires.0 refl in
+    (n_within _ _ _ t.bounds, (sym (t.objects _) ∙ s.requires.0, rw t.counted at s.requires.1)))
     (λ c κs.
-    let s = c.before.before.before in let t = object_k 5 _ _ _ c.in-5.is s.requires.object_value refl in record { n_le_places = (n_within _ _ _ t.bounds, floor_positive _ _ (object-allowed _ _ _ s.requires.object_value) c.in-5.is); object_value = sym (t.objects _) ∙ s.requires.object_value })
+    let s = c.before.before.before in let t = object_k 5 _ _ _ c.in-5.is s.requires.0 refl in
+    ((n_within _ _ _ t.bounds, floor_positive _ _ (object-allowed _ _ _ s.requires.0) c.in-5.is), sym (t.objects _) ∙ s.requires.0))
     (λ c κs.
-    let s = c.before.before.before in let t = object 6 _ _ _ c.in-6.is s.requires.object_value in record { n_le_branches = n_within _ _ _ t.bounds; object_value = sym (t.objects _) ∙ s.requires.object_value; n_bound = rw t.counted at s.requires.lists_bound })
+    let s = c.before.before.before in let t = object 6 _ _ _ c.in-6.is s.requires.0 in
+    (n_within _ _ _ t.bounds, (sym (t.objects _) ∙ s.requires.0, rw t.counted at s.requires.1)))
     (λ c κs.
-    let s = c.before.before.before in let t = object_n 7 _ _ _ c.in-7.is s.requires.object_value refl in record { object_len_bound = n_within _ _ _ t.bounds; object_value = sym (t.objects _) ∙ s.requires.object_value; object_bound = rw t.counted at s.requires.lists_bound })
+    let s = c.before.before.before in let t = object_n 7 _ _ _ c.in-7.is s.requires.0 refl in
+    (n_within _ _ _ t.bounds, (sym (t.objects _) ∙ s.requires.0, rw t.counted at s.requires.1)))
     returns
     returns-2
     returns-3
@@ -92,4 +98,4 @@ rank_spec =
     returns-5
     returns-6
     returns-7
-    (λ c. absurd (has_arm _ _ (object-allowed _ _ _ c.requires.object_value) c.in_default.in_default-own.rest)))
+    (λ c. absurd (has_arm _ _ (object-allowed _ _ _ c.requires.0) c.in_default.in_default-own.rest)))

@@ -8,11 +8,11 @@ use Rattle.grammar.proofs.counts.how_many.Tie as tie
 
 returns : tie.Need-returns-then-h-eq2
 unfolding counts_on
-returns c = record { upper_bound = omega arith; value = rw (eq-eqb c.args.h.kind 2 c.if-h-eq2.true) }
+returns c = (omega arith, rw (eq-eqb c.args.h.kind 2 c.if-h-eq2.true))
 
 returns-2 : tie.Need-returns
 unfolding counts_on
-returns-2 c = record { upper_bound = omega arith; value = rw (ne_eqb c.args.h.kind 2 c.if-h-eq2.false) }
+returns-2 c = (omega arith, rw (ne_eqb c.args.h.kind 2 c.if-h-eq2.false))
 
 pub how_many_spec : {M : Type 1} → statement M
 how_many_spec = tie.close (tie.spec

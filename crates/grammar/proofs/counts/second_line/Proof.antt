@@ -33,23 +33,23 @@ module _ (c : tie.After-how_many-m) where
   m = c.how_many-m.result
 
   by : {o : Option (List ℕ)} {r : Option Slip} → second_line m x ≡ o → with_counts h (handed_on o) ≡ r → slip_with h x ≡ r
-  by = by_line h x c.how_many-m.ensures.value
+  by = by_line h x c.how_many-m.ensures.1
 
 returns : tie.Need-returns-then-rest-eq0
 unfolding handed_on with_counts parsed_as
-returns c = let e = c.before.before in record { at_most = at_most (h e) 0 most_counts (omega arith); rest_value = by e (line_absent (m e) (x e) c.if-m-eq0.true c.if-rest-eq0.true) refl }
+returns c = let e = c.before.before in (at_most (h e) 0 most_counts (omega arith), by e (line_absent (m e) (x e) c.if-m-eq0.true c.if-rest-eq0.true) refl)
 
 returns-2 : tie.Need-returns-then-m-eq0
 unfolding handed_on with_counts parsed_as
-returns-2 c = let e = c.before.before in record { at_most = at_most_malformed most_counts; rest_value = by e (line_unasked (m e) (x e) c.if-m-eq0.true c.if-rest-eq0.false) refl }
+returns-2 c = let e = c.before.before in (at_most_malformed most_counts, by e (line_unasked (m e) (x e) c.if-m-eq0.true c.if-rest-eq0.false) refl)
 
 returns-3 : tie.Need-returns-then-rest-end
 unfolding handed_on with_counts parsed_as
-returns-3 c = let e = c.before.before in record { at_most = at_most_malformed most_counts; rest_value = by e (line_present (m e) (x e) c.if-m-eq0.false ∙ line-width (m e) (x e) (λ q. omega arith)) refl }
+returns-3 c = let e = c.before.before in (at_most_malformed most_counts, by e (line_present (m e) (x e) c.if-m-eq0.false ∙ line-width (m e) (x e) (λ q. omega arith)) refl)
 
 returns-4 : tie.Need-returns-then-rest-end-ne10
 unfolding handed_on with_counts parsed_as
-returns-4 c = let e = c.before.before.before.before in record { at_most = at_most_malformed most_counts; rest_value = by e (line_present (m e) (x e) c.if-m-eq0.false ∙ line_end (m e) (x e) c.if-rest-end-ne10.true) refl }
+returns-4 c = let e = c.before.before.before.before in (at_most_malformed most_counts, by e (line_present (m e) (x e) c.if-m-eq0.false ∙ line_end (m e) (x e) c.if-rest-end-ne10.true) refl)
 
 abbrev asked : tie.Else-rest-end-ne10 → tie.After-how_many-m
 asked c = c.before.before.before.before
@@ -70,11 +70,12 @@ unfolding with_counts parsed_as
 returns-5 c =
     let r = c.before.before.before in
     let e = asked r.before.before in
-    let ys = r.read_counts.new.counts in record { at_most = at_most (h e) (m e) most_counts (omega arith); rest_value = read r ∙ ap (with_counts (h e)) (ap (λ (b : Bool). cond b (some ys) none) c.if-read_counts.true ∙ ap some (sym (take_at ys (drop (m e) (start e).args.counts.now) (m e) (r.read_counts.auto.counts ∙ lent r.before)))) }
+    let ys = r.read_counts.new.counts in
+    (at_most (h e) (m e) most_counts (omega arith), read r ∙ ap (with_counts (h e)) (ap (λ (b : Bool). cond b (some ys) none) c.if-read_counts.true ∙ ap some (sym (take_at ys (drop (m e) (start e).args.counts.now) (m e) (r.read_counts.auto.counts ∙ lent r.before)))))
 
 returns-6 : tie.Need-returns
 unfolding with_counts parsed_as
-returns-6 c = let r = c.before.before.before in record { at_most = at_most_malformed most_counts; rest_value = read r ∙ ap (λ (b : Bool). with_counts (h (asked r.before.before)) (cond b (some r.read_counts.new.counts) none)) c.if-read_counts.false }
+returns-6 c = let r = c.before.before.before in (at_most_malformed most_counts, read r ∙ ap (λ (b : Bool). with_counts (h (asked r.before.before)) (cond b (some r.read_counts.new.counts) none)) c.if-read_counts.false)
 
 pub second_line_spec : {M : Type 1} → statement M
 second_line_spec =

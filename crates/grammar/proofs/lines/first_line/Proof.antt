@@ -28,34 +28,39 @@ fourth c = sym c.number_at.ensures ∙ ap value_as c.in-Number.is
 
 returns : tie.Need-returns-then-input-le-FAMILY_WIDTH
 unfolding opened_as
-returns c = let y = c.args.input.now in record { ends = ends_nowhere y; input_value = slip_too_short y (omega arith) }
+returns c = let y = c.args.input.now in (ends_nowhere y, slip_too_short y (omega arith))
 
 returns-2 : tie.Need-returns-then-input-eq10
 unfolding opened_as
-returns-2 c = let y = c.args.input.now in record { ends = ends_at _ _ y (omega arith) (omega arith); input_value = slip_three y (omega arith) c.if-input-eq10.true }
+returns-2 c = let y = c.args.input.now in (ends_at _ _ y (omega arith) (omega arith), slip_three y (omega arith) c.if-input-eq10.true)
 
 returns-3 : tie.Need-returns-then-input-le-HEAD_WIDTH
 unfolding opened_as
-returns-3 c = let e = c.before in record { ends = ends_nowhere (x e); input_value = slip_short (x e) (four e) (omega arith) }
+returns-3 c = let e = c.before in (ends_nowhere (x e), slip_short (x e) (four e) (omega arith))
 
 returns-4 : tie.Need-returns-then-input-ne10
 unfolding opened_as
-returns-4 c = let e = c.before.before.before in record { ends = ends_nowhere (x e); input_value = slip_open (x e) (four e) c.if-input-ne10.true }
+returns-4 c = let e = c.before.before.before in (ends_nowhere (x e), slip_open (x e) (four e) c.if-input-ne10.true)
 
 returns-5 : tie.Need-returns-in_default
 unfolding opened_as value_as
 returns-5 c =
-    let e = c.before.before.before.before.before in record { ends = ends_nowhere (x e); input_value = slip_bad (x e) (four e) (sym c.number_at.ensures ∙ ap value_as c.in_default.is) }
+    let e = c.before.before.before.before.before in
+    (ends_nowhere (x e), slip_bad (x e) (four e) (sym c.number_at.ensures ∙ ap value_as c.in_default.is))
 
 returns-6 : tie.Need-returns-then-start-gt1
 unfolding opened_as
 returns-6 c =
-    let e = c.before.before.before.before.before.before in record { ends = ends_nowhere (x e); input_value = slip_other (x e) (four e) (fourth c.before) (omega arith) }
+    let e = c.before.before.before.before.before.before in
+    (ends_nowhere (x e), slip_other (x e) (four e) (fourth c.before) (omega arith))
 
 returns-7 : tie.Need-returns
 unfolding opened_as
 returns-7 c =
-    let e = c.before.before.before.before.before.before in record { ends = ends_at _ _ (x e) (omega arith) (omega arith); input_value = slip_four (x e) (four e) (omega arith) c.if-input-ne10.false (fourth c.before) (omega arith) }
+    let e = c.before.before.before.before.before.before in (
+      ends_at _ _ (x e) (omega arith) (omega arith),
+      slip_four (x e) (four e) (omega arith) c.if-input-ne10.false (fourth c.before) (omega arith),
+    )
 
 pub first_line_spec : {M : Type 1} → statement M
 first_line_spec =

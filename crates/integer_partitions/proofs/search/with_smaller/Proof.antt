@@ -19,7 +19,7 @@ with_smaller_spec =
     tie.close
     (tie.spec
     (λ c. let a = c.args in omega (arith, ap (λ (p : ℕ). parts_from p a.n a.k) c.if-p-floor.true))
-    (λ c κs. record { floor_nonzero = search rules; floor_bound = search rules })
-    (λ c κs. record { floor_nonzero = search rules; floor_bound = search rules })
+    (λ c κs. search rules)
+    (λ c κs. search rules)
     sub-result
     (λ c. search rules))

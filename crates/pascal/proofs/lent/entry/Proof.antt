@@ -13,12 +13,12 @@ use Rattle.pascal.proofs.lent.entry.Tie as tie
 inside : (c : tie.After-place-at) → c.place-at.result < 2346
 inside c =
     let a = c.args in
-    omega (arith, c.place-at.ensures, place-le a.n 67 a.k c.requires.n_le_last_row.0 c.requires.n_le_last_row.1)
+    omega (arith, c.place-at.ensures, place-le a.n 67 a.k c.requires.0.0 c.requires.0.1)
 
 returns : tie.Need-returns
 returns c =
     let a = c.args in
-    ap (λ (i : ℕ). get_or a.table.now i 0) c.place-at.ensures ∙ c.requires.triangle.there a.n a.k (omega arith) (omega arith)
+    ap (λ (i : ℕ). get_or a.table.now i 0) c.place-at.ensures ∙ c.requires.1.there a.n a.k (omega arith) (omega arith)
 
 pub entry_spec : {M : Type 1} → statement M
 entry_spec = tie.close (tie.spec

@@ -14,5 +14,5 @@ before_place_spec =
     (tie.spec
     (λ c. sym (back-before last_row _ _ c.if-k-i.true))
     (λ c. sym (back-within last_row _ _ c.if-k-i.false ∙ choose-none last_row _ c.if-at-gt-LAST_ROW.true))
-    (λ c κs. record { n_le_last_row = search rules; triangle = search rules })
+    (λ c κs. search rules)
     (λ c. c.entry.ensures ∙ sym (back-within last_row _ _ c.if-k-i.false)))

@@ -51,11 +51,11 @@ climb_spec =
     (tie.spec
     invariant-loop
     decreases-loop
-    (λ c κs. c.requires.triangle)
+    (λ c κs. c.requires.0)
     (λ c. omega arith)
     (λ c. record { row = last_row; from = omega arith; up_to = omega arith; long = search rules; entries = λ i h. c.last_row-w.ensures i (omega arith) })
     (λ c. omega arith)
-    (λ c κs. record { m_in_bounds = omega arith; by_index = small c.loop-left.invariant c.requires.last_row_le_n.1.1 })
+    (λ c κs. (omega arith, small c.loop-left.invariant c.requires.1.1.1))
     (λ c. omega arith)
     (λ c. omega arith)
     (λ c. turn c.loop-left.invariant c.loop-left-test.true c.add_neighbours.ensures)

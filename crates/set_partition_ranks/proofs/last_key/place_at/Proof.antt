@@ -17,22 +17,22 @@ place_at_spec =
     (λ c.
     let s = c.before.before in
     let a = s.args in
-    rw (edition_two a.edition c.if-edition-eq2.true) (alone_two a.k a.rank a.alone a.joined s.requires.joined_nonzero.0 s.requires.joined_nonzero.1 c.if-before-rank.true))
+    rw (edition_two a.edition c.if-edition-eq2.true) (alone_two a.k a.rank a.alone a.joined s.requires.0.0 s.requires.0.1 c.if-before-rank.true))
     (λ c. search rules)
     (λ c. let s = c.before.before in omega (arith, s.requires, div-le_self s.args.rank s.args.joined))
     (λ c. search rules)
     (λ c.
     let s = c.before.before in
     let a = s.args in
-    rw (add-one, edition_two a.edition c.if-edition-eq2.true) (joined-two a.k a.rank a.alone a.joined s.requires.joined_nonzero.0 s.requires.joined_nonzero.1 c.if-before-rank.false))
+    rw (add-one, edition_two a.edition c.if-edition-eq2.true) (joined-two a.k a.rank a.alone a.joined s.requires.0.0 s.requires.0.1 c.if-before-rank.false))
     (λ c.
     let s = c.before.before in
     let a = s.args in
-    rw (edition_one a.edition c.if-edition-eq2.false) (alone_one a.k a.rank a.alone a.joined s.requires.joined_nonzero.0 s.requires.joined_nonzero.1 c.if-rank-alone.true))
+    rw (edition_one a.edition c.if-edition-eq2.false) (alone_one a.k a.rank a.alone a.joined s.requires.0.0 s.requires.0.1 c.if-rank-alone.true))
     (λ c. search rules)
     (λ c. let s = c.before.before in omega (arith, s.requires, div-le_self (s.args.rank - s.args.alone) s.args.joined))
     (λ c. search rules)
     (λ c.
     let s = c.before.before in
     let a = s.args in
-    rw (add-one, edition_one a.edition c.if-edition-eq2.false) (joined-one a.k a.rank a.alone a.joined s.requires.joined_nonzero.0 s.requires.joined_nonzero.1 c.if-rank-alone.false)))
+    rw (add-one, edition_one a.edition c.if-edition-eq2.false) (joined-one a.k a.rank a.alone a.joined s.requires.0.0 s.requires.0.1 c.if-rank-alone.false)))

@@ -12,13 +12,13 @@ returns : tie.Need-returns-then-opens_late
 returns c =
     let s = c.before.before.before.before.before.before.before in
     let t = c.before.before.before.before in
-    rw c.open_late.ensures (late_end (edition_of s.args.edition) s.args.up (length s.args.object.now) s.args.k s.requires.k_in_bounds.0 s.requires.k_in_bounds.1 (sym t.opens_late.ensures ∙ t.if-opens_late.true))
+    rw c.open_late.ensures (late_end (edition_of s.args.edition) s.args.up (length s.args.object.now) s.args.k s.requires.1.0 s.requires.1.1 (sym t.opens_late.ensures ∙ t.if-opens_late.true))
 
 returns-2 : tie.Need-returns
 returns-2 c =
     let s = c.before.before.before.before.before.before.before.before in
     let t = c.before.before.before.before.before in
-    rw (c.open_early.ensures, c.rest_block.ensures) (early_end (edition_of s.args.edition) s.args.up (length s.args.object.now) s.args.k s.requires.k_in_bounds.0 s.requires.k_in_bounds.1 (sym t.opens_late.ensures ∙ t.if-opens_late.false))
+    rw (c.open_early.ensures, c.rest_block.ensures) (early_end (edition_of s.args.edition) s.args.up (length s.args.object.now) s.args.k s.requires.1.0 s.requires.1.1 (sym t.opens_late.ensures ∙ t.if-opens_late.false))
 
 pub write_end_spec : {M : Type 1} → statement M
 write_end_spec =

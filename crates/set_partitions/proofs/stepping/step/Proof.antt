@@ -22,7 +22,7 @@ use Rattle.set_partitions.proofs.stepping.step.Statement.{statement}
 use Rattle.set_partitions.proofs.stepping.step.Tie as tie
 
 partition : (c : tie.Start) → opens 0 c.args.k c.args.object.now ≡ true
-partition c = (partition_cases (length c.args.object.now) c.args.k c.args.object.now c.requires.object_value).1
+partition c = (partition_cases (length c.args.object.now) c.args.k c.args.object.now c.requires.1).1
 
 -- what the search found
 
@@ -74,7 +74,8 @@ move-key-requires c κs =
     let b = found i in
     let t = turned i in
     let k = get_or (x b) (r i) 0 in
-    let can : moves b.opens_late-late.result (start b).args.up (r i) (u i) k ≡ true = subst (λ late. moves late (start b).args.up (r i) (u i) k ≡ true) (sym b.opens_late-late.ensures) t.can in record { le_b = omega (arith, (first i).inside, (start b).requires.object_len_bound); b_le_used = (late_leaves _ _ _ _ _ can, early_leaves _ _ _ _ _ can) }
+    let can : moves b.opens_late-late.result (start b).args.up (r i) (u i) k ≡ true = subst (λ late. moves late (start b).args.up (r i) (u i) k ≡ true) (sym b.opens_late-late.ensures) t.can in
+    (omega (arith, (first i).inside, (start b).requires.0), (late_leaves _ _ _ _ _ can, early_leaves _ _ _ _ _ can))
 
 slice-aggregate-write-end : tie.Need-slice_bounds-write_end-end-2
 slice-aggregate-write-end c = let t = c.before.before.before.before in sym (front_long (x (found t)) (r t) _ (first t).inside)
@@ -82,7 +83,7 @@ slice-aggregate-write-end c = let t = c.before.before.before.before in sym (fron
 write-end-requires : tie.Need-write_end-requires
 write-end-requires c κs =
     let t = c.before.before.before.before in
-    rw (front_long (x (found t)) (r t) _ (first t).inside) (omega (arith, (start (found t)).requires.object_len_bound, (first t).inside), ((turned t).moved _ _ c.move_key-moved.ensures).0)
+    rw (front_long (x (found t)) (r t) _ (first t).inside) (omega (arith, (start (found t)).requires.0, (first t).inside), ((turned t).moved _ _ c.move_key-moved.ensures).0)
 
 same-length-2 : tie.Need-shape_of-object
 same-length-2 c =

@@ -16,7 +16,7 @@ use Rattle.slip.proofs.listing.put_body.Tie as tie
 returns : tie.Need-returns-in_default
 returns c =
     let a = c.args in
-    absurd (length-not_refused a.f (lent (map (λ x. x.now) a.lists)) c.requires.lists_value (rw c.in_default.is at c.object_length.ensures))
+    absurd (length-not_refused a.f (lent (map (λ x. x.now) a.lists)) c.requires.1 (rw c.in_default.is at c.object_length.ensures))
 
 -- the length that was told
 told : (c : tie.In-Bytes) → Told c.args.f (lent (map (λ x. x.now) c.args.lists)) c.in-Bytes.size
@@ -25,7 +25,8 @@ told c = let a = c.args in length-known a.f (lent (map (λ x. x.now) a.lists)) (
 put-listing-requires : tie.Need-put_listing-requires
 put-listing-requires c κs =
     let n = c.in-Bytes.size in
-    let e : length (take n (replicate {A = ℕ} longest_object 0)) ≡ n = length-take-le n (replicate {A = ℕ} longest_object 0) (told c.before.before).within in record { longest_body_in_bounds = search rules; object_len_bound = rw e (told c.before.before).within; object_len = e ∙ (told c.before.before).long; lists_value = (told c.before.before).admitted }
+    let e : length (take n (replicate {A = ℕ} longest_object 0)) ≡ n = length-take-le n (replicate {A = ℕ} longest_object 0) (told c.before.before).within in
+    (search rules, (rw e (told c.before.before).within, (e ∙ (told c.before.before).long, (told c.before.before).admitted)))
 
 pub put_body_spec : {M : Type 1} → statement M
 put_body_spec =

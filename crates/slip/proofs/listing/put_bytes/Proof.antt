@@ -30,12 +30,13 @@ loop-again : tie.Need-loop-i-preserved invariant-loop decreases-loop
 loop-again c =
     let l = c.loop-i in
     let x = c.args.object.now in
-    (omega arith, (search rules, (omega arith, rw (bytes-more (column field_width) x l.i (omega arith)) (then l.invariant.1.1.1 c.put_column-end.ensures.wrote))))
+    (omega arith, (search rules, (omega arith, rw (bytes-more (column field_width) x l.i (omega arith)) (then l.invariant.1.1.1 c.put_column-end.ensures.1))))
 
 returns : tie.Need-returns invariant-loop decreases-loop
 returns c =
     let l = c.loop-i in
-    let x = c.args.object.now in record { value = omega arith; wrote = rw (take_all l.i x (omega arith)) at l.invariant.1.1.1 }
+    let x = c.args.object.now in
+    (omega arith, rw (take_all l.i x (omega arith)) at l.invariant.1.1.1)
 
 pub put_bytes_spec : {M : Type 1} → statement M
 put_bytes_spec =

@@ -8,7 +8,7 @@ use Rattle.slip.proofs.listing.put_counted.Statement.{statement}
 use Rattle.slip.proofs.listing.put_counted.Tie as tie
 
 returns : tie.Need-returns
-returns c = let a = c.args in headed a.start a.f (lent (map (λ x. x.now) a.lists)) c.put_family-family.ensures.wrote c.put_column-count.ensures.wrote c.put_byte-line.ensures.wrote c.put_body.ensures
+returns c = let a = c.args in headed a.start a.f (lent (map (λ x. x.now) a.lists)) c.put_family-family.ensures.1 c.put_column-count.ensures.1 c.put_byte-line.ensures.1 c.put_body.ensures
 
 pub put_counted_spec : {M : Type 1} → statement M
 put_counted_spec =
@@ -17,6 +17,6 @@ put_counted_spec =
     (λ c κs. search rules)
     (λ c κs. search rules)
     (λ c κs. search rules)
-    (λ c κs. record { longest_body_in_bounds = search rules; lists_value = search rules })
+    (λ c κs. search rules)
     (λ c. search rules)
     returns)

@@ -10,7 +10,7 @@ use Rattle.slip.proofs.listing.put_family.Tie as tie
 
 returns : tie.Need-returns
 unfolding family_columns
-returns c = record { value = omega arith; wrote = rw append_assoc at (then (then c.put_column-kind.ensures.wrote c.put_column-n.ensures.wrote) c.put_column.ensures.wrote) }
+returns c = (omega arith, rw append_assoc at (then (then c.put_column-kind.ensures.1 c.put_column-n.ensures.1) c.put_column.ensures.1))
 
 pub put_family_spec : {M : Type 1} → statement M
 put_family_spec =

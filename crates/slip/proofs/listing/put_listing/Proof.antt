@@ -13,11 +13,12 @@ returns : tie.Need-returns-in_default
 returns c =
     let a = c.args in
     let b = lent (map (λ x. x.now) a.lists) in
-    nothing_listed a.start (listing a.f b) (starts_none a.f b a.object.now c.requires.lists_value c.requires.object_len not_written (rw c.in_default.is at c.first.ensures)) c.put_last.ensures
+    nothing_listed a.start (listing a.f b) (starts_none a.f b a.object.now c.requires.1.1.1 c.requires.1.1.0 not_written (rw c.in_default.is at c.first.ensures)) c.put_last.ensures
 
 put-objects-requires : tie.Need-put_objects-requires
 put-objects-requires c κs =
-    let a = c.args in record { longest_body_in_bounds = search rules; object_len_bound = search rules; first = starts a.f (lent (map (λ x. x.now) a.lists)) a.object.now (rw c.in-Done.is at c.first.ensures) }
+    let a = c.args in
+    (search rules, (search rules, starts a.f (lent (map (λ x. x.now) a.lists)) a.object.now (rw c.in-Done.is at c.first.ensures)))
 
 pub put_listing_spec : {M : Type 1} → statement M
 put_listing_spec =

@@ -10,7 +10,7 @@ use Rattle.slip.proofs.listing.put_object.Tie as tie
 
 returns : tie.Need-returns
 unfolding object_line
-returns c = record { value = omega arith; wrote = rw append_assoc at (then (then c.put_column-column.ensures.wrote c.put_bytes-end.ensures.wrote) c.put_byte.ensures.wrote) }
+returns c = (omega arith, rw append_assoc at (then (then c.put_column-column.ensures.1 c.put_bytes-end.ensures.1) c.put_byte.ensures.1))
 
 pub put_object_spec : {M : Type 1} → statement M
 put_object_spec =

@@ -34,7 +34,7 @@ decreases-loop out₀ at start f lists object₀ end₀ rank₀ out object end r
 
 loop-holds : tie.Need-loop-rank-init invariant-loop decreases-loop
 unfolding object_lines
-loop-holds c = (omega arith, (refl, (refl, (omega arith, (c.requires.first, wrote_nothing _ _)))))
+loop-holds c = (omega arith, (refl, (refl, (omega arith, (c.requires.1.1, wrote_nothing _ _)))))
 
 -- where the object was put before NEXT was asked, and the head of that turn
 abbrev put : tie.After-next invariant-loop decreases-loop → tie.After-put_object-end invariant-loop decreases-loop
@@ -48,14 +48,14 @@ returns c =
     let n = c.before.before.before.before.before.before.before in let p = put n in let l = (head p).loop-rank in
     let a = (head p).args in let s = listing a.f (lent (map (λ x. x.now) a.lists)) in let here = l.invariant.1.1.1.1.0 in
     let last = stops a.f (lent (map (λ x. x.now) a.lists)) l.rank here (not_moved n.next.result c.in_default.in_default-own.keys2) n.next.ensures in
-    ended a.start s (l.rank + 1) (line_written a.start s l.rank l.invariant.1.1.1.1.1 here p.put_object-end.ensures.wrote) (omega arith) (omega arith) c.put_last.ensures
+    ended a.start s (l.rank + 1) (line_written a.start s l.rank l.invariant.1.1.1.1.1 here p.put_object-end.ensures.1) (omega arith) (omega arith) c.put_last.ensures
 
 loop-again : tie.Need-loop-rank-preserved invariant-loop decreases-loop
 loop-again c =
     let n = c.before.before.before in let p = put n in let l = (head p).loop-rank in
     let a = (head p).args in let s = listing a.f (lent (map (λ x. x.now) a.lists)) in let here = l.invariant.1.1.1.1.0 in
     let there = moves_on a.f (lent (map (λ x. x.now) a.lists)) l.rank here (rw c.in-Moved.is at n.next.ensures) in
-    (omega arith, (search rules, (search rules, (omega arith, (rw add-one there, line_written a.start s l.rank l.invariant.1.1.1.1.1 here p.put_object-end.ensures.wrote)))))
+    (omega arith, (search rules, (search rules, (omega arith, (rw add-one there, line_written a.start s l.rank l.invariant.1.1.1.1.1 here p.put_object-end.ensures.1)))))
 
 returns-2 : tie.Need-returns invariant-loop decreases-loop
 returns-2 c =

@@ -9,7 +9,7 @@ use Rattle.slip.proofs.listing.put_refused.Tie as tie
 
 returns : tie.Need-returns
 unfolding refused_text
-returns c = rw append_assoc at (then (then c.put_word-word.ensures.wrote c.put_column-end.ensures.wrote) c.put_byte.ensures.wrote)
+returns c = rw append_assoc at (then (then c.put_word-word.ensures.1 c.put_column-end.ensures.1) c.put_byte.ensures.1)
 
 pub put_refused_spec : {M : Type 1} → statement M
 put_refused_spec =

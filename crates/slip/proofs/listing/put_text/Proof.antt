@@ -13,10 +13,10 @@ abbrev lists : tie.After-count → Lent
 lists c = lent (map (λ x. x.now) c.before.before.args.lists)
 
 put-counted-requires : tie.Need-put_counted-requires
-put-counted-requires c κs = let e = c.before.before in record { largest_in_bounds = search rules; lists_value = counted-allowed e.args.f (lists e) (rw c.in-Objects.is at e.count.ensures) }
+put-counted-requires c κs = let e = c.before.before in (search rules, counted-allowed e.args.f (lists e) (rw c.in-Objects.is at e.count.ensures))
 
 put-uncounted-requires : tie.Need-put_uncounted-requires
-put-uncounted-requires c κs = let e = c.before.before in record { largest_in_bounds = search rules; lists_value = λ q. many_allowed e.args.f (lists e) (rw q at (rw c.in-Refused.is at e.count.ensures)) }
+put-uncounted-requires c κs = let e = c.before.before in (search rules, λ q. many_allowed e.args.f (lists e) (rw q at (rw c.in-Refused.is at e.count.ensures)))
 
 returns : tie.Need-returns-in-Objects
 returns c = let n = c.before.before.before.before in let e = n.before.before in rw (text_counted e.args.start e.args.f (lists e) (rw n.in-Objects.is at e.count.ensures)) c.put_counted.ensures

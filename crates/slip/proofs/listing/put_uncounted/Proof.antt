@@ -23,10 +23,10 @@ put_uncounted_spec =
     (λ c. search rules)
     (λ c. let t = c.before.before.before.before in rw (ne_eqb t.args.q 5 (λ e. omega arith)) c.put_refused.ensures)
     (λ c κs. search rules)
-    (λ c. record { word_len_bound = search rules; width_in_bounds = search rules })
+    (λ c. search rules)
     (λ c κs. search rules)
-    (λ c κs. record { longest_body_in_bounds = search rules; lists_value = search rules })
-    (λ c κs. let e = many c.before.before.before in (search rules, e.requires.lists_value (omega arith)))
+    (λ c κs. search rules)
+    (λ c κs. let e = many c.before.before.before in (search rules, e.requires.1 (omega arith)))
     (λ c. search rules)
     (λ c.
     let line = c.before.before.before.before.before.before in
