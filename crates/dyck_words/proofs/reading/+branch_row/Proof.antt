@@ -78,13 +78,16 @@ pub +branch_row_spec : {M : Type 1} → statement M
     (λ c. let e = c.before.before.before in branch_stuck _ _ (branch_start t e).requires.1 (row_read t e) (omega arith) c.if-object-end-ne0.true)
     (λ c. omega arith)
     (λ c. let e = c.before.before.before in branch_closes _ _ (branch_start t e).requires.1 (row_read t e).0 (omega arith) c.if-object-end-ne0.false))
-    λ t. row-lts.spec (row_calls t) (row_at t) row.Post
+    λ t. row-lts.spec
+    (row_calls t)
+    (row_at t)
+    row.Post
     (λ c. let start = c.before.before in row_stays start.requires.1 (λ e. omega (arith, get_or-eq_default start.args.object.now 0 {n = start.args.at} (omega arith))))
     (λ c. omega arith)
-    (λ c. row_stays c.before.before.before.before.requires.1 c.if2.true)
-    (λ c κs. (omega arith, (omega arith, c.if2.false)))
+    (λ c. row_stays c.requires.1 c.if-object-at-ne1.true)
+    (λ c κs. (omega arith, (omega arith, c.if-object-at-ne1.false)))
     (λ c. search rules)
     (λ c. search rules)
-    (λ c. subst (BranchRead _ _) c.enum_told.given.1 c.before.before.branch.ensures)
-    (λ c κs. let b = branch_read t c.before in (omega (arith, b.0.onward, b.0.inside, b.1), b.0.inside))
-    (λ c. row_goes (branch_read t c.before.before).0 c.row.result c.row.ensures)
+    (λ c. subst (BranchRead _ _) c.in_default-next.is c.branch-next.ensures)
+    (λ c κs. let b = branch_read t c in (omega (arith, b.0.onward, b.0.inside, b.1), b.0.inside))
+    (λ c. row_goes (branch_read t c.before).0 c.row.result c.row.ensures)

@@ -54,7 +54,7 @@ returns c = let b = c.before in stops (lists (e b) (length (x b)) (start b).args
 
 module _ (c : tie.In-At) where
   abbrev found : tie.After-block_to_move
-  found = c.before.before
+  found = c.before
 
   abbrev r : ℕ
   r = c.in-At.i
