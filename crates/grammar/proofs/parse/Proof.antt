@@ -42,13 +42,13 @@ module _ (c : tie.In-Line) where
       ∙ ap (λ (o : Option (List ℕ)). slip_at start o (drop end x)) (fields_three x p q r)
 
 abbrev begun : tie.In-Number → tie.In-Line
-begun c = c.before.before.before.before
+begun c = c.before.before
 
 abbrev kinded : tie.In-Number-number_at → tie.In-Number
-kinded c = c.before.before.before.before
+kinded c = c.before.before
 
 abbrev sized : tie.In-Number-number_at-2 → tie.In-Number-number_at
-sized c = c.before.before.before.before
+sized c = c.before.before
 
 -- where a field has been read, it is a number
 kind_said : (c : tie.In-Number) → said (x (begun c)) 0 ≡ some c.in-Number.kind
@@ -72,7 +72,7 @@ second-line-requires c κs =
 abbrev head : tie.In-Number-number_at-2 → Head
 head c =
     let e = sized c in
-    record { kind = (kinded e).in-Number.kind; n = e.in-Number-number_at.n; k = c.k.given.0.0; start = start (begun (kinded e)) }
+    record { kind = (kinded e).in-Number.kind; n = e.in-Number-number_at.n; k = c.in-Number-number_at-2.k; start = start (begun (kinded e)) }
 
 head-said : (c : tie.In-Number-number_at-2) → let s = begun (kinded (sized c)) in slip_of (x s) ≡ slip_with (head c) (drop (end s) (x s))
 unfolding slip_at cons_field head_of

@@ -1,7 +1,6 @@
 -- `set_partitions::is_object` meets its contract: the models read so far leave the test of the rest, with the blocks used.
 -- Assumes nothing.
 use mathlib.Core.Path.{◌≡◌, sym, ◌∙◌}
-use mathlib.Core.Logic.{⊎_elim}
 use Prim.Native.Nat.{ℕ, ◌-◌, ◌≤◌, max}
 use native.Mathlib.Numerals.{add-one}
 use native.Mathlib.Omega.{arith}
@@ -11,6 +10,7 @@ use Rattle.set_partitions.specs.Objects.{opens, is_set_partition}
 use Rattle.set_partitions.proofs.Testing.{wrong_length, right-length, block_wrong, block_read, all_read}
 use Rattle.set_partitions.proofs.is_object.Statement.{statement}
 use Rattle.set_partitions.proofs.is_object.Tie as tie
+use Rattle.set_partitions.proofs.is_object.Lts.{then-used-b-2, else-used-b-2}
 
 abbrev invariant-loop : tie.invariant-loop-i
 invariant-loop n k object used₀ i₀ used i = (i ≤ length object) × ((used ≤ i) × (is_set_partition n k object ≡ opens used k (drop i object)))
@@ -36,7 +36,7 @@ loop-again c =
     let l = c.loop-i in
     let b : ℕ = get_or a.object.now l.i 0 in
     let some : b ≡ 0 → ⊥ = c.if-b-eq0.false in
-    let most : c.if-used-b-2.used ≡ max l.used b = ⊎_elim (λ w. omega arith) (λ w. omega arith) c.if-used-b-2.branch in
+    let most : c.if-used-b-2.used ≡ max l.used b = elim c.if-used-b-2.branch [ then-used-b-2 w ↦ omega arith | else-used-b-2 w ↦ omega arith ] in
     (omega arith, (omega arith, l.invariant.1.1 ∙ block_read a.k l.used l.i a.object.now (omega arith) (omega arith) (omega arith) ∙ rw (add-one, most)))
 
 pub is_object_spec : {M : Type 1} → statement M

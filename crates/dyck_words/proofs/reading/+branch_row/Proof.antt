@@ -44,7 +44,7 @@ abbrev branch_calls : ℕ → branch-lts.Claims
 branch_calls t = (row_below t, row.Post)
 
 abbrev branch_start : (t : ℕ) → branch-lts.In-To (branch_calls t) (branch_at t) branch.Post → branch-lts.Start (branch_calls t) (branch_at t) branch.Post
-branch_start t c = c.before.before.before.before
+branch_start t c = c.before.before.before
 
 -- in a branch, how far its row came
 row_read : (t : ℕ) (c : branch-lts.In-To (branch_calls t) (branch_at t) branch.Post) → let a = (branch_start t c).args in RowRead a.object.now (a.at + 1) (To c.in-To.end)

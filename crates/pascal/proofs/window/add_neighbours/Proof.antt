@@ -35,10 +35,10 @@ invariant-loop w₀ m i₀ w i = (i ≤ m) × Part w₀ w i
 abbrev decreases-loop : tie.decreases-loop-i
 decreases-loop w₀ m i₀ w i = m - i
 
-add-w-2 : tie.Need-overflow-add-w-2 invariant-loop decreases-loop
+add-w-2 : tie.Need-overflow_add-w-in-loop-i invariant-loop decreases-loop
 add-w-2 c =
-    let l = c.before.before.before.loop in
-    record { fits = omega (arith, reads_start l.invariant.1, c.before.before.before.before.requires.1 l.i c.before.before.loop-test.true) }
+    let l = c.loop-i in
+    record { fits = omega (arith, reads_start l.invariant.1, c.requires.1 l.i c.loop-i-test.true) }
 
 pub add_neighbours_spec : {M : Type 1} → statement M
 add_neighbours_spec =

@@ -1,8 +1,8 @@
 -- `set_partitions::stepping::block_to_move` meets its contract: no key at the places passed can move, and their highest block is kept.
 -- Assumes nothing.
 use mathlib.Core.Path.{◌≡◌, sym, ◌∙◌}
-use mathlib.Core.Logic.{⊎_elim}
-use mathlib.Core.Bool.{Bool, false}
+use mathlib.Core.Bool.{Bool, false, not, ◌&&◌, cond}
+use lib.Dec.{eqb, ltb}
 use Prim.Native.Nat.{ℕ, zero, suc, ◌+◌, ◌-◌, ◌≤◌, ◌<◌, max}
 use native.Mathlib.Numerals.{add-one}
 use native.Mathlib.Omega.{arith}
@@ -11,10 +11,11 @@ use borrow.Author.Count.{below_more}
 use borrow.Author.Rules.{rules}
 use borrow.Author.Tests.{lt-ltb, le-ltb}
 use Rattle.listings.specs.Bytes.{Bytes}
-use Rattle.set_partitions.specs.Inner.Moves.{moves, used_before, moves_at}
+use Rattle.set_partitions.specs.Inner.Moves.{moves, used_before, moves_at, rest_block}
 use Rattle.set_partitions.proofs.KeyOrder.{new_stays}
 use Rattle.set_partitions.proofs.stepping.block_to_move.Statement.{statement}
 use Rattle.set_partitions.proofs.stepping.block_to_move.Tie as tie
+use Rattle.set_partitions.proofs.stepping.block_to_move.Lts.{then-used-b, else-used-b}
 
 abbrev Passed : Bool → Bool → Bytes → ℕ → ℕ → Type 0
 Passed late up x used i = (i ≤ length x) × ((used ≡ used_before x i) × ((j : ℕ) → j < i → moves_at late up x j ≡ false))
@@ -40,17 +41,13 @@ first-passed late up x some e = (some, (rw e (omega arith), first))
 inside : (c : tie.In-loop-i invariant-loop decreases-loop) → let a = c.args in Passed a.late a.up a.object.now c.loop-i.used c.loop-i.i
 inside c = c.loop-i.invariant.1 (omega arith)
 
-new_answered : (c : tie.After-leaves_new invariant-loop decreases-loop) → let a = c.args in moves_at a.late a.up a.object.now c.loop-i.i ≡ c.leaves_new.result
+new_answer : (late up : Bool) (x : Bytes) (i u : ℕ) (r : Bool) → u ≡ used_before x i → u < get_or x i 0 → r ≡ (not late && ltb u i) → moves_at late up x i ≡ r
 unfolding moves
-new_answered c =
-    let l = c.loop-i in
-    rw (← (inside c.before.before.before).1.0, lt-ltb l.used _ c.if-used-b.true) (sym c.leaves_new.ensures)
+new_answer late up x i u r e lt told = rw (← e, lt-ltb u _ lt) (sym told)
 
-old_answered : (c : tie.After-leaves_block invariant-loop decreases-loop) → let a = c.args in moves_at a.late a.up a.object.now c.loop-i.i ≡ c.leaves_block.result
+old_answer : (late up : Bool) (x : Bytes) (i u : ℕ) (r : Bool) → u ≡ used_before x i → get_or x i 0 ≤ u → r ≡ cond late (ltb 1 u) (not (eqb (get_or x i 0) (rest_block up u))) → moves_at late up x i ≡ r
 unfolding moves
-old_answered c =
-    let l = c.loop-i in
-    rw (← (inside c.before.before.before).1.0, le-ltb l.used _ c.if-used-b.false) (sym c.leaves_block.ensures)
+old_answer late up x i u r e le told = rw (← e, le-ltb u _ le) (sym told)
 
 loop-holds : tie.Need-loop-i-init invariant-loop decreases-loop
 loop-holds c = let s = c.before in (omega arith, λ some. first-passed s.args.late s.args.up s.args.object.now some (s.requires some))
@@ -58,12 +55,12 @@ loop-holds c = let s = c.before in (omega arith, λ some. first-passed s.args.la
 returns : tie.Need-returns-then-leaves_new invariant-loop decreases-loop
 returns c =
     let p = inside c.before.before.before.before in
-    record { inside = omega arith; passed = p.1.1; found = new_answered c.before ∙ c.if-leaves_new.true; used = p.1.0 }
+    record { inside = omega arith; passed = p.1.1; found = new_answer _ _ _ _ _ _ p.1.0 c.if-used-b.true c.leaves_new.ensures ∙ c.if-leaves_new.true; used = p.1.0 }
 
 returns-2 : tie.Need-returns-then-leaves_block invariant-loop decreases-loop
 returns-2 c =
     let p = inside c.before.before.before.before in
-    record { inside = omega arith; passed = p.1.1; found = old_answered c.before ∙ c.if-leaves_block.true; used = p.1.0 }
+    record { inside = omega arith; passed = p.1.1; found = old_answer _ _ _ _ _ _ p.1.0 c.if-used-b.false c.leaves_block.ensures ∙ c.if-leaves_block.true; used = p.1.0 }
 
 -- one more is passed
 one_more : (late up : Bool) (x : Bytes) (u v i : ℕ) → Passed late up x u i → i < length x → v ≡ max u (get_or x i 0) → moves_at late up x i ≡ false → Passed late up x v (i + 1)
@@ -77,14 +74,10 @@ loop-again c =
     let l = c.loop-i in
     let p = inside c.before.before in (
       omega arith,
-      λ some. ⊎_elim
-          (λ w.
-          let kept : c.if-used-b.used ≡ get_or x l.i 0 = w.3 in
-          one_more a.late a.up x l.used c.if-used-b.used l.i p (omega arith) (omega (arith, w.0.taken)) (new_answered record { before = record { before = c.before; if1 = w.0 }; leaves-new = w.1 } ∙ w.2.left))
-          (λ w.
-          let kept : c.if-used-b.used ≡ l.used = w.3 in
-          one_more a.late a.up x l.used c.if-used-b.used l.i p (omega arith) (omega (arith, w.0.left)) (old_answered record { before = record { before = c.before; if1 = w.0 }; leaves-block = w.1 } ∙ w.2.left))
-          c.if-used-b.branch,
+      λ some. elim c.if-used-b.branch [
+        | then-used-b w ↦ one_more a.late a.up x l.used c.if-used-b.used l.i p (omega arith) (omega (arith, w.used-is, w.if-used-b.true)) (new_answer _ _ _ _ _ _ p.1.0 w.if-used-b.true w.leaves_new.ensures ∙ w.if-leaves_new.false)
+        | else-used-b w ↦ one_more a.late a.up x l.used c.if-used-b.used l.i p (omega arith) (omega (arith, w.used-is, w.if-used-b.false)) (old_answer _ _ _ _ _ _ p.1.0 w.if-used-b.false w.leaves_block.ensures ∙ w.if-leaves_block.false)
+      ],
     )
 
 returns-3 : tie.Need-returns invariant-loop decreases-loop

@@ -1,7 +1,6 @@
 -- `subsets::search::number_to_raise` meets its contract. The loop's invariant: no number passed leaves room below the next.
 -- Assumes nothing.
 use mathlib.Core.Path.{◌≡◌, sym, ◌∙◌, ap}
-use mathlib.Core.Logic.{⊎_elim}
 use Prim.Native.Nat.{ℕ, suc, ◌+◌, ◌-◌, ◌≤◌, ◌<◌}
 use native.Mathlib.Numerals.{add-one}
 use native.Mathlib.Omega.{arith}
@@ -11,6 +10,7 @@ use borrow.Author.Count.{below_more}
 use Rattle.listings.proofs.Standing.{get_d_default}
 use Rattle.subsets.proofs.search.number_to_raise.Statement.{statement}
 use Rattle.subsets.proofs.search.number_to_raise.Tie as tie
+use Rattle.subsets.proofs.search.number_to_raise.Lts.{then-i-k, else-i-k}
 
 abbrev invariant-loop : tie.invariant-loop-i
 invariant-loop n object k i₀ i = (i ≤ length object) × ((j : ℕ) → j < i → get_or object (suc j) (suc n) ≤ suc (get_or object j 0))
@@ -23,9 +23,10 @@ following : (c : tie.Joined-i-k invariant-loop decreases-loop) → let a = c.arg
 following c =
     let a = c.args in
     let i = c.loop-i.i in
-    ⊎_elim (λ w. w.3 ∙ w.2.ensures ∙ get_d_default a.object.now (i + 1) 0 (suc a.n) w.0.taken ∙ ap (λ j. get_or a.object.now j (suc a.n)) (add-one i))
-    (λ w. w.1 ∙ add-one a.n ∙ sym (get_or-eq_default a.object.now (suc a.n) {n = suc i} (omega (arith, w.0.left))))
-    c.if-i-k.branch
+    elim c.if-i-k.branch [
+      | then-i-k w ↦ w.next-is ∙ w.wide-next.ensures ∙ get_d_default a.object.now (i + 1) 0 (suc a.n) w.if-i-k.true ∙ ap (λ j. get_or a.object.now j (suc a.n)) (add-one i)
+      | else-i-k w ↦ w.next-is ∙ add-one a.n ∙ sym (get_or-eq_default a.object.now (suc a.n) {n = suc i} (omega arith))
+    ]
 
 pub number_to_raise_spec : {M : Type 1} → statement M
 number_to_raise_spec =
