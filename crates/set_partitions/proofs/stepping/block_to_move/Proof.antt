@@ -15,7 +15,7 @@ use Rattle.set_partitions.specs.Inner.Moves.{moves, used_before, moves_at, rest_
 use Rattle.set_partitions.proofs.KeyOrder.{new_stays}
 use Rattle.set_partitions.proofs.stepping.block_to_move.Statement.{statement}
 use Rattle.set_partitions.proofs.stepping.block_to_move.Tie as tie
-use Rattle.set_partitions.proofs.stepping.block_to_move.Lts.{then-used-b, else-used-b}
+use Rattle.set_partitions.proofs.stepping.block_to_move.Lts.{then-used-b+else-leaves_new, else-used-b+else-leaves_block}
 
 abbrev Passed : Bool → Bool → Bytes → ℕ → ℕ → Type 0
 Passed late up x used i = (i ≤ length x) × ((used ≡ used_before x i) × ((j : ℕ) → j < i → moves_at late up x j ≡ false))
@@ -75,8 +75,8 @@ loop-again c =
     let p = inside c.before.before in (
       omega arith,
       λ some. elim c.if-used-b.branch [
-        | then-used-b w ↦ one_more a.late a.up x l.used c.if-used-b.used l.i p (omega arith) (omega (arith, w.used-is, w.if-used-b.true)) (new_answer _ _ _ _ _ _ p.1.0 w.if-used-b.true w.leaves_new.ensures ∙ w.if-leaves_new.false)
-        | else-used-b w ↦ one_more a.late a.up x l.used c.if-used-b.used l.i p (omega arith) (omega (arith, w.used-is, w.if-used-b.false)) (old_answer _ _ _ _ _ _ p.1.0 w.if-used-b.false w.leaves_block.ensures ∙ w.if-leaves_block.false)
+        | then-used-b+else-leaves_new w ↦ one_more a.late a.up x l.used c.if-used-b.used l.i p (omega arith) (omega (arith, w.used-is, w.if-used-b.true)) (new_answer _ _ _ _ _ _ p.1.0 w.if-used-b.true w.leaves_new.ensures ∙ w.if-leaves_new.false)
+        | else-used-b+else-leaves_block w ↦ one_more a.late a.up x l.used c.if-used-b.used l.i p (omega arith) (omega (arith, w.used-is, w.if-used-b.false)) (old_answer _ _ _ _ _ _ p.1.0 w.if-used-b.false w.leaves_block.ensures ∙ w.if-leaves_block.false)
       ],
     )
 
