@@ -35,7 +35,7 @@ returns-4 c = let a = c.args in sym (within_out _ _ (floor_in a.floor _ (omega a
 returns-5 : tie.Need-returns
 returns-5 c =
     let a = c.args in
-    exactly_within (floor_in a.floor _ (omega arith) (omega arith) ∙ both_in a.n a.k places (omega arith) (omega arith)) c.at_least.ensures (omega (arith, c.at_least.type-inv))
+    exactly_within (floor_in a.floor _ (omega arith) (omega arith) ∙ both_in a.n a.k places (omega arith) (omega arith)) c.at_least.ensures (omega (arith, c.at_least.type_inv))
 
 pub partitions_spec : {M : Type 1} → statement M
 partitions_spec =

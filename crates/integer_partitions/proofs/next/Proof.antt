@@ -19,7 +19,7 @@ here c = raised _ _ _ _ c.requires.1 c.requires.0.0 c.part_to_raise-i.ensures c.
 returns-2 : tie.Need-returns
 returns-2 c =
     let w = c.before.before.before.before in
-    let e = w.before.before.before.before in
+    let e = w.before.before.before in
     next-steps (lists _ _ _)
     (raises _ _ _ _ e.requires.1 e.part_to_raise-i.ensures (here e).inside c.first.new.object c.first.auto.object
     (rw (w.wide.ensures, w.sum-others.ensures) at c.first.ensures))

@@ -18,7 +18,7 @@ here c = lowered _ _ _ _ c.requires.1 c.requires.0 c.part_to_lower-i.ensures c.i
 returns-2 : tie.Need-returns
 returns-2 c =
     let w = c.before.before.before.before in
-    let e = w.before.before.before.before in
+    let e = w.before.before.before in
     previous_steps (lists _ _ _)
     (lowers _ _ _ _ e.requires.1 e.part_to_lower-i.ensures (here e).inside c.last.new.object c.last.auto.object
     (rw (w.wide.ensures, w.sum-others.ensures) at c.last.ensures))

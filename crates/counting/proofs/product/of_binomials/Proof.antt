@@ -87,15 +87,11 @@ letter c = let a = c.before.before.before in record { behind = a.loop-i.invarian
 
 returns-2 : tie.Need-returns-in_default-times invariant-loop decreases-loop
 returns-2 c =
-    let w = c.before.before in
-    let a = w.before.before in
-    product_stop (letter a.before.before) a.ways_out_of.ensures w.in-Exactly.is c.times.ensures c.in_default-times.in_default-times-own.keys2
+    product_stop (letter c.before.before.before.before) c.ways_out_of.ensures c.in-Exactly.is c.times.ensures c.in_default-times.in_default-times-own.keys2
 
 loop-again : tie.Need-loop-i-preserved invariant-loop decreases-loop
 loop-again c =
-    let w = c.before.before in
-    let a = w.before.before in
-    turn (letter a.before.before) a.ways_out_of.ensures w.in-Exactly.is c.times.ensures c.in-Exactly-times.is
+    turn (letter c.before.before.before.before) c.ways_out_of.ensures c.in-Exactly.is c.times.ensures c.in-Exactly-times.is
 
 pub of_binomials_spec : {M : Type 1} → statement M
 of_binomials_spec =

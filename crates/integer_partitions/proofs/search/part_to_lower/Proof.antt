@@ -1,7 +1,6 @@
 -- `integer_partitions::search::part_to_lower` meets its contract: no part that it has passed, but the first, is above the next.
 -- Assumes nothing.
 use mathlib.Core.Path.{◌≡◌, sym, ◌∙◌}
-use mathlib.Core.Logic.{⊎_elim}
 use Prim.Native.Nat.{ℕ, ◌+◌, ◌≤◌, ◌<◌, ◌-◌}
 use native.Mathlib.Omega.{arith}
 use lib.ListN.{length, get_or, get_or-eq_default}
@@ -10,6 +9,7 @@ use borrow.Author.Count.{below_more}
 use Rattle.listings.proofs.Standing.{get_d_default}
 use Rattle.integer_partitions.proofs.search.part_to_lower.Statement.{statement}
 use Rattle.integer_partitions.proofs.search.part_to_lower.Tie as tie
+use Rattle.integer_partitions.proofs.search.part_to_lower.Lts.{then-i-k, else-i-k}
 
 abbrev invariant-loop : tie.invariant-loop-i
 invariant-loop floor object k i₀ i = (0 < i) × ((j : ℕ) → j < i → 0 < j → get_or object j 0 ≤ get_or object i floor)
@@ -20,10 +20,11 @@ decreases-loop floor object k i₀ i = length object - i
 -- the part behind, or the floor
 next-is : (c : tie.Joined-i-k invariant-loop decreases-loop) → let a = c.args in c.if-i-k.next ≡ get_or a.object.now (c.loop-i.i + 1) a.floor
 next-is c =
-    let l = c.before.before in
-    let a = l.args in
-    ⊎_elim (λ w. w.3 ∙ w.2.ensures ∙ get_d_default a.object.now (l.loop-i.i + 1) 0 a.floor (omega (arith, w.0.taken)))
-    (λ w. w.1 ∙ sym (get_or-eq_default a.object.now a.floor (omega (arith, w.0.left)))) c.if-i-k.branch
+    let a = c.args in
+    elim c.if-i-k.branch [
+      then-i-k w ↦ w.next-is ∙ w.wide-next.ensures ∙ get_d_default a.object.now (c.loop-i.i + 1) 0 a.floor (omega arith)
+      | else-i-k w ↦ w.next-is ∙ sym (get_or-eq_default a.object.now a.floor (omega arith))
+    ]
 
 loop-again : tie.Need-loop-i-preserved invariant-loop decreases-loop
 loop-again c =

@@ -20,10 +20,10 @@ invariant-loop object s₀ i₀ s i = (i ≤ length object) × (s ≡ total (tak
 abbrev decreases-loop : tie.decreases-loop-i
 decreases-loop object s₀ i₀ s i = length object - i
 
-mul-if1 : tie.Need-overflow-mul-if1 invariant-loop decreases-loop
+mul-if1 : tie.Need-overflow_mul-i invariant-loop decreases-loop
 mul-if1 c =
-    let most : c.before.before.before.loop.i ≤ places = omega arith in
-    let byte : c.wide.result + 1 ≤ 256 = omega (arith, c.before.shared-slice-known2.given c.before.before.before.loop.i) in
+    let most : c.loop-i.i ≤ places = omega arith in
+    let byte : c.wide-p.result + 1 ≤ 256 = omega (arith, c.shared_slice_known-in-loop-i-1.given c.loop-i.i) in
     omega (arith, mul-le-mul most byte)
 
 -- one part more
