@@ -34,9 +34,9 @@ module _ (c : tie.In-loop-i invariant-loop decreases-loop) where
   short = omega (arith, long start.args.left.now start.args.object.now start.requires.1.0)
 
 -- the front with this letter, once the words in front of it are counted
-read_on : (c : tie.After-earlier-rank invariant-loop decreases-loop) {left : List ℕ} → let e = c.before.before.before in let l = e.loop-i in let a = (start e).args in left ≡ one_less l.left (get_or a.object.now l.i 0 - 1) → Front a.left.now (take (l.i + 1) a.object.now) (l.rank + c.earlier-rank.result) left
+read_on : (c : tie.After-earlier-rank invariant-loop decreases-loop) {left : List ℕ} → let e = c.before.before in let l = e.loop-i in let a = (start e).args in left ≡ one_less l.left (get_or a.object.now l.i 0 - 1) → Front a.left.now (take (l.i + 1) a.object.now) (l.rank + c.earlier-rank.result) left
 read_on c less =
-    let e = c.before.before.before in let l = e.loop-i in let t = here e in
+    let e = c.before.before in let l = e.loop-i in let t = here e in
     front_read _ t.left l.invariant.1.0 t.size c.earlier-rank.ensures less _ l.i (omega arith) (omega (arith, t.some)) l.invariant.1.1.1
 
 loop-again : tie.Need-loop-i-preserved invariant-loop decreases-loop
@@ -53,9 +53,9 @@ rank_of_spec =
     (λ c. omega (arith, c.shared_slice_known-in-loop-i-1.given c.loop-i.i))
     (λ c. (here c.before).some)
     (λ c. omega arith)
-    (λ c κs. let e = c.before.before in omega (arith, here e, short e))
+    (λ c κs. let e = c.before in omega (arith, here e, short e))
     (λ c. omega (arith, front_fits (read_on c refl), (start c.before.before).requires.1.1))
-    (λ c κs. let e = c.before.before.before.before in omega (arith, here e, short e))
+    (λ c κs. let e = c.before.before.before in omega (arith, here e, short e))
     (λ c. omega arith)
     (λ c. omega arith)
     loop-again

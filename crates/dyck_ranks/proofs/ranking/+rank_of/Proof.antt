@@ -64,7 +64,7 @@ module _ (t : ℕ) where
 
     stands : At (dyck_words (start node).args.n) (start node).args.object.now place
     stands = let inner = c.rank_of-inside_rank in let outer = c.rank_of-rest_rank in
-        ranked (parts node) inner.result outer.result node.if-n-eq0.left inner.ensures outer.ensures c.shorter_insides.ensures c.ways.ensures
+        ranked (parts node) inner.result outer.result node.if-n-eq0.false inner.ensures outer.ensures c.shorter_insides.ensures c.ways.ensures
 
     below : place < 2 ^ 64
     below = let n = (start node).args.n in omega (arith, at_below (dyck_words n) place stands, counted n, (start node).requires.1.1.1)
