@@ -16,7 +16,7 @@ is_object_spec =
     (λ c κs. search rules)
     (λ c κs.
     let s = c.before.before.before in let t = handed 2 _ _ c.in-2.is s.requires in
-    rw (← get_or-map (λ x. x.now) s.args.t2 0 _) (letters_fit t))
+    rw (← get_or-map (λ x. x.now) s.args.lists 0 _) (letters_fit t))
     (λ c κs.
     let t = handed 3 _ _ c.in-3.is c.requires in
     n_within _ _ _ t.bounds)
@@ -33,7 +33,7 @@ is_object_spec =
     c.is_object.ensures ∙ sym (t.objects _))
     (λ c.
     let s = c.before.before.before.before in let t = handed 2 _ _ c.in-2.is s.requires in
-    (rw (← get_or-map (λ x. x.now) s.args.t2 0 _) at c.is_object-in-2.ensures) ∙ sym (t.objects _))
+    (rw (← get_or-map (λ x. x.now) s.args.lists 0 _) at c.is_object-in-2.ensures) ∙ sym (t.objects _))
     (λ c.
     let t = handed 3 _ _ c.in-3.is c.requires in
     c.is_object-in-3.ensures ∙ sym (t.objects _))

@@ -22,7 +22,7 @@ last_spec =
     (λ c κs.
     let s = c.before.before.before.before in
     let t = handed 2 _ _ c.in-2.is s.requires.0 in
-    rw (← get_or-map (λ x. x.now) s.args.t2 0 _) (letters_fit t, s.requires.1.1 ∙ t.long))
+    rw (← get_or-map (λ x. x.now) s.args.lists 0 _) (letters_fit t, s.requires.1.1 ∙ t.long))
     (λ c κs.
     let s = c.before.before.before.before in
     let t = long_n 3 _ _ s.args.object.now c.in-3.is s.requires.0 s.requires.1.1 refl in
@@ -55,7 +55,7 @@ last_spec =
     let m = c.before.before.before.before in
     let s = m.before.before.before in
     let t = handed 2 _ _ m.in-2.is s.requires.0 in
-    rw t.lists (rw (← get_or-map (λ x. x.now) s.args.t2 0 _) at c.last-in-2.ensures))
+    rw t.lists (rw (← get_or-map (λ x. x.now) s.args.lists 0 _) at c.last-in-2.ensures))
     (λ c. search rules)
     (λ c.
     let m = c.before.before.before.before in

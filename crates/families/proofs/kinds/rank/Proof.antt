@@ -23,7 +23,7 @@ returns-2 : tie.Need-returns-in-2
 unfolding rank_of
 returns-2 c =
     let s = c.before.before.before.before in let t = object 2 _ _ _ c.in-2.is s.requires.0 in
-    rw (t.orders, t.lists) (rw (← get_or-map (λ x. x.now) s.args.t2 0 _) at c.rank-in-2.ensures)
+    rw (t.orders, t.lists) (rw (← get_or-map (λ x. x.now) s.args.lists 0 _) at c.rank-in-2.ensures)
 
 -- kind 3
 
@@ -75,7 +75,7 @@ rank_spec =
     (n_within _ _ _ t.bounds, (sym (t.objects _) ∙ s.requires.0, rw t.counted at s.requires.1)))
     (λ c κs.
     let s = c.before.before.before in let t = object 2 _ _ _ c.in-2.is s.requires.0 in
-    rw (← get_or-map (λ x. x.now) s.args.t2 0 _) (letters_fit t, (t.short, (sym (t.objects _) ∙ s.requires.0, rw t.counted at s.requires.1))))
+    rw (← get_or-map (λ x. x.now) s.args.lists 0 _) (letters_fit t, (t.short, (sym (t.objects _) ∙ s.requires.0, rw t.counted at s.requires.1))))
     (λ c κs.
     let s = c.before.before.before in let t = object_n 3 _ _ _ c.in-3.is s.requires.0 refl in
     (n_within _ _ _ t.bounds, (sym (t.objects _) ∙ s.requires.0, rw t.counted at s.requires.1)))

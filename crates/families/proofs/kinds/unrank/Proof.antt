@@ -21,7 +21,7 @@ unrank_spec =
     (λ c κs.
     let s = c.before.before.before.before in
     let t = handed 2 _ _ c.in-2.is s.requires.0 in
-    rw (← get_or-map (λ x. x.now) s.args.t3 0 _) (letters_fit t, ((t.short, s.requires.1.1.0 ∙ t.long), (rw t.counted at s.requires.1.0, rw t.counted at s.requires.1.1.1))))
+    rw (← get_or-map (λ x. x.now) s.args.lists 0 _) (letters_fit t, ((t.short, s.requires.1.1.0 ∙ t.long), (rw t.counted at s.requires.1.0, rw t.counted at s.requires.1.1.1))))
     (λ c κs.
     let s = c.before.before.before.before in
     let t = long_n 3 _ _ s.args.object.now c.in-3.is s.requires.0 s.requires.1.1.0 refl in
@@ -53,7 +53,7 @@ unrank_spec =
     let m = c.before.before.before.before in
     let s = m.before.before.before in
     let t = handed 2 _ _ m.in-2.is s.requires.0 in
-    rw t.lists (rw (← get_or-map (λ x. x.now) s.args.t3 0 _) at c.unrank-in-2.ensures))
+    rw t.lists (rw (← get_or-map (λ x. x.now) s.args.lists 0 _) at c.unrank-in-2.ensures))
     (λ c. search rules)
     (λ c.
     let m = c.before.before.before.before in

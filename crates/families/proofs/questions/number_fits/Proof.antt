@@ -54,7 +54,7 @@ returns-2 : tie.Need-returns-in_default
 unfolding rank_refusal
 returns-2 c =
     let said = is_yes c.says_a_number.ensures c.if-not-says_a_number.false-raw in
-    c.fits2.ensures _ _ c.rank_size-size.ensures ∙ sym (five_alone _ _ _ said (no_rank c.args.c c.in_default.in_default-own.keys2))
+    c.fits.ensures _ _ c.rank_size-size.ensures ∙ sym (five_alone _ _ _ said (no_rank c.args.c c.in_default.in_default-own.keys2))
 
 returns-3 : tie.Need-returns
 unfolding put asked is_in rank_given rank_refusal

@@ -26,24 +26,24 @@ count_spec =
     (λ c κs. search rules)
     (λ c κs. search rules)
     (λ c.
-    let s = c.before.before.before in let t = handed 1 s.args.f (lent (map (λ x. x.now) s.args.t2)) c.in-1.is s.requires in
+    let s = c.before.before.before in let t = handed 1 s.args.f (lent (map (λ x. x.now) s.args.lists)) c.in-1.is s.requires in
     answer-within c.coefficient.ensures t.bounds t.counted)
     (λ c.
-    let s = c.before.before.before in let t = handed 2 s.args.f (lent (map (λ x. x.now) s.args.t2)) c.in-2.is s.requires in
-    answer-within (rw (← get_or-map (λ x. x.now) s.args.t2 0 _) at c.multinomial.ensures) (sum_fits t) t.counted)
+    let s = c.before.before.before in let t = handed 2 s.args.f (lent (map (λ x. x.now) s.args.lists)) c.in-2.is s.requires in
+    answer-within (rw (← get_or-map (λ x. x.now) s.args.lists 0 _) at c.multinomial.ensures) (sum_fits t) t.counted)
     (λ c.
-    let s = c.before.before.before in let t = handed 3 s.args.f (lent (map (λ x. x.now) s.args.t2)) c.in-3.is s.requires in
+    let s = c.before.before.before in let t = handed 3 s.args.f (lent (map (λ x. x.now) s.args.lists)) c.in-3.is s.requires in
     answer-within c.factorial.ensures (and-true (leb s.args.f.n places) _ t.bounds).0 t.counted)
     (λ c.
-    let s = c.before.before.before in let t = handed 4 s.args.f (lent (map (λ x. x.now) s.args.t2)) c.in-4.is s.requires in
+    let s = c.before.before.before in let t = handed 4 s.args.f (lent (map (λ x. x.now) s.args.lists)) c.in-4.is s.requires in
     answer-within c.stirling.ensures t.bounds t.counted)
     (λ c.
-    let s = c.before.before.before in let t = handed 5 s.args.f (lent (map (λ x. x.now) s.args.t2)) c.in-5.is s.requires in
+    let s = c.before.before.before in let t = handed 5 s.args.f (lent (map (λ x. x.now) s.args.lists)) c.in-5.is s.requires in
     answer-within c.partitions.ensures (and_makes (floor_within _ _ s.requires c.in-5.is) t.bounds) t.counted)
     (λ c.
-    let s = c.before.before.before in let t = handed 6 s.args.f (lent (map (λ x. x.now) s.args.t2)) c.in-6.is s.requires in
+    let s = c.before.before.before in let t = handed 6 s.args.f (lent (map (λ x. x.now) s.args.lists)) c.in-6.is s.requires in
     answer-within c.catalan.ensures (and-true (leb s.args.f.n branches) _ t.bounds).0 t.counted)
     (λ c.
-    let s = c.before.before.before in let t = handed 7 s.args.f (lent (map (λ x. x.now) s.args.t2)) c.in-7.is s.requires in
+    let s = c.before.before.before in let t = handed 7 s.args.f (lent (map (λ x. x.now) s.args.lists)) c.in-7.is s.requires in
     answer-within c.derangement.ensures (and-true (leb s.args.f.n places) _ t.bounds).0 t.counted)
     (λ c. absurd (has_arm _ _ c.requires c.in_default.in_default-own.rest)))

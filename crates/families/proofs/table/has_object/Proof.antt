@@ -31,12 +31,12 @@ unfolding row
 returns-4 c = rw c.in-4.is c.shared_out.ensures
 
 -- k and the floor are small
-mul-shared-out : tie.Need-overflow-mul-shared-out
+mul-shared-out : tie.Need-overflow_mul-k
 mul-shared-out c =
-    let f = c.before.args.f in
-    let t = handed 5 f _ c.match.keys5 c.before.requires in
+    let f = c.args.f in
+    let t = handed 5 f _ c.in-5.is c.requires in
     let k_most : f.k ≤ places = leb-true f.k places (and-true (leb f.n places) (leb f.k places) t.bounds).1 in
-    let most : f.floor ≤ floors = floor_most f _ c.before.requires c.match.keys5 in
+    let most : f.floor ≤ floors = floor_most f _ c.requires c.in-5.is in
     omega (arith, mul-le-mul k_most most)
 
 returns-5 : tie.Need-returns-in-5

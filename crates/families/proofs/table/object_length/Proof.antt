@@ -48,14 +48,14 @@ object_length_spec =
     (λ c. search rules)
     (λ c κs. search rules)
     (λ c.
-    let t = handed 6 c.args.f (lent (map (λ x. x.now) c.args.t2)) c.in-6.is c.requires in
+    let t = handed 6 c.args.f (lent (map (λ x. x.now) c.args.lists)) c.in-6.is c.requires in
     let small : c.args.f.n ≤ branches = n_within _ _ _ t.bounds in
     omega arith)
     returns
     (λ c.
-    let t = handed 2 c.args.f (lent (map (λ x. x.now) c.args.t2)) c.in-2.is c.requires in
-    let short = leb-true (total (lent (map (λ x. x.now) c.args.t2)).counts) places (sum_fits t) in
-    (rw (← get_or-map (λ x. x.now) c.args.t2 0 _) at c.sum_to_limit.ensures) ∙ min-eq_left (omega arith) ∙ sym t.long)
+    let t = handed 2 c.args.f (lent (map (λ x. x.now) c.args.lists)) c.in-2.is c.requires in
+    let short = leb-true (total (lent (map (λ x. x.now) c.args.lists)).counts) places (sum_fits t) in
+    (rw (← get_or-map (λ x. x.now) c.args.lists 0 _) at c.sum_to_limit.ensures) ∙ min-eq_left (omega arith) ∙ sym t.long)
     returns-3
     returns-4
     returns-5
