@@ -1,6 +1,6 @@
 -- `binomials::number_at` meets its contract: the three cases of the definition.
 -- Assumes nothing.
-use Rattle.std.proofs.Common.{◌≡◌, ℕ, zero, suc, ◌-◌, refl, rules}
+use Rattle.std.proofs.Common.{◌≡◌, ℕ, zero, suc, refl, rules}
 use Rattle.binomials.specs.Inner.Factors.{number_at}
 use Rattle.binomials.proofs.number_at.Statement.{statement}
 use Rattle.binomials.proofs.number_at.Tie as tie

@@ -1,5 +1,5 @@
 -- `listings::same` meets its contract.
-use Rattle.std.proofs.Common.{◌≡◌, sym, ◌∙◌, ap, Bool, ◌&&◌, ◌+◌, length, get_or, take, [], arith, add-one}
+use Rattle.std.proofs.Common.{sym, ◌∙◌, ap, Bool, ◌&&◌, get_or, take, [], arith, add-one}
 use mathlib.Core.Path.{ap₂}
 use mathlib.Core.Bool.{and-true, and-false}
 use lib.Seq.{take_all}

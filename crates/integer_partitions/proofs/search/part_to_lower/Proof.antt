@@ -22,7 +22,7 @@ next-is : (c : tie.Joined-i-k invariant-loop decreases-loop) → let a = c.args 
 next-is c =
     let a = c.args in
     elim c.if-i-k.branch [
-      then-i-k w ↦ w.next-is ∙ w.wide-next.ensures ∙ get_d_default a.object.now (c.loop-i.i + 1) 0 a.floor (omega arith)
+      | then-i-k w ↦ w.next-is ∙ w.wide-next.ensures ∙ get_d_default a.object.now (c.loop-i.i + 1) 0 a.floor (omega arith)
       | else-i-k w ↦ w.next-is ∙ sym (get_or-eq_default a.object.now a.floor (omega arith))
     ]
 
