@@ -5,7 +5,6 @@
 ghost use Rattle.std.specs.Prelude.{◌≤◌, length, IfOk};
 ghost use Rattle.io.specs.Counts.{IsPrefixLen};
 
-use std::io::{Print, Read as Reader};
 use std::rt::Files;
 use std::{fs, io};
 
@@ -79,7 +78,7 @@ pub fn digest(start: u64, s: &[u8]) -> u64 {
 }
 
 // Reads until the buffer is full or the input ends, and answers how many bytes.
-fn read_full<R: Reader>(input: &mut R, out: &mut [u8]) -> io::Result<usize>
+fn read_full<R: io::Read>(input: &mut R, out: &mut [u8]) -> io::Result<usize>
     ensures { IfOk result (λ n. IsPrefixLen n out.new) }
 {
     let mut done = 0;
