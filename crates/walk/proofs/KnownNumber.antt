@@ -208,18 +208,18 @@ module _ (f : Family) (b : Lent) where
   walked_sound : {w : Walk} → Sound f b w → (hs : List Handed) → Agreed hs → Sound f b (walked w hs)
   unfolding walked
   walked_sound s [] g = s
-  walked_sound {w} s (h ∷ hs) g = walked_sound (stays_sound s h.0 h.1 (g.0 (kept_by w).bytes s.right.object)) hs g.1
+  walked_sound {w} s (h ∷ hs) g = walked_sound {w = (step_walk h.0 h.1 w).1} (stays_sound s h.0 h.1 (g.0 (kept_by w).bytes s.right.object)) hs g.1
 
   lent-right : {k : Kept} → Right f b k → (hs : List Handed) → Agreed hs → Right f b (walked_lent f k hs)
   unfolding walked_lent
   lent-right s [] g = s
-  lent-right {k} s (h ∷ hs) g = lent-right (stays_right s h.0 h.1 (length k.bytes) (g.0 k.bytes s.object)) hs g.1
+  lent-right {k} s (h ∷ hs) g = lent-right {k = (step_kept h.0 f h.1 (length k.bytes) k).1} (stays_right s h.0 h.1 (length k.bytes) (g.0 k.bytes s.object)) hs g.1
 
   said_so : {w : Walk} → Sound f b w → (ways : List Way) → map said (steps w (alike b ways)) ≡ run (map call_of ways) f b (kept_by w).bytes
   unfolding steps run responses
   said_so s [] = refl
   said_so {w} s (a ∷ ways) =
-      let later = said_so (stays_sound s a b (λ o. refl)) ways in
+      let later = said_so {w = (step_walk a b w).1} (stays_sound s a b (λ o. refl)) ways in
       ap (λ (t : Said). t ∷ map said (steps (step_walk a b w).1 (alike b ways))) (one_step_lem s a)
       ∙ ap (λ (l : List Said). respond (call_of a) f b (kept_by w).bytes ∷ l) (later ∙ ap (λ (t : Said). run (map call_of ways) f b t.1) (one_step_lem s a))
 

@@ -51,46 +51,46 @@ within c =
 
 same-requires : tie.Need-same-requires invariant-loop decreases-loop
 same-requires c κs =
-    let i = c.before.before in let at = i.loop-place.at in let size = length i.loop-place.object in
+    let i = c.before in let at = i.loop-place.at in let size = length i.loop-place.object in
     let kept : at + size - at ≡ size = omega arith in
-    mid_len at (at + size) (a i).args.bytes.now (within i) ∙ kept
+    mid_len at (at + size) (a i.before).args.bytes.now (within i) ∙ kept
 
 -- what the comparison has told
-told : (c : tie.After-same invariant-loop decreases-loop) → let h = c.before.before.before.before in c.same.result ≡ same (entry (l h) (a h).args.entries (long h) (a h).args.bytes.now h.loop.place) h.loop.object
-told c = let h = c.before.before.before.before in c.same.ensures ∙ ap (λ (x : Bytes). same x h.loop.object) (read h)
+told : (c : tie.After-same invariant-loop decreases-loop) → let h = c.before.before.before in c.same.result ≡ same (entry (l h) (a h).args.entries (long h) (a h).args.bytes.now h.loop-place.place) h.loop-place.object
+told c = let h = c.before.before.before in c.same.ensures ∙ ap (λ (x : Bytes). same x h.loop-place.object) (read h)
 
 returns : tie.Need-returns-then-not-same invariant-loop decreases-loop
 returns c =
-    let s = c.before in let h = s.before.before.before.before in
-    sym (differs (l h) (a h).args.entries (long h) (a h).args.bytes.now h.loop.invariant.1.1.1 s.loop-place-test.true (sym (told s) ∙ not-true _ c.if-not-same.true-raw))
+    let s = c.before in let h = s.before.before.before in
+    sym (differs (l h) (a h).args.entries (long h) (a h).args.bytes.now h.loop-place.invariant.1.1.1 s.loop-place-test.true (sym (told s) ∙ not-true _ c.if-not-same.true-raw))
 
 -- the entry is right
-right : (c : tie.Else-not-same invariant-loop decreases-loop) → let h = c.before.before.before.before.before in AgreeTo (l h) (entries (l h) (a h).args.entries (long h) (a h).args.bytes.now) (suc h.loop.place)
+right : (c : tie.Else-not-same invariant-loop decreases-loop) → let h = c.before.before.before.before in AgreeTo (l h) (entries (l h) (a h).args.entries (long h) (a h).args.bytes.now) (suc h.loop-place.place)
 right c =
-    let s = c.before in let h = s.before.before.before.before in
-    agrees (l h) (a h).args.entries (long h) (a h).args.bytes.now h.loop.invariant.1.1.1 s.loop-place-test.true (sym (told s) ∙ not-false _ c.if-not-same.false-raw)
+    let s = c.before in let h = s.before.before.before in
+    agrees (l h) (a h).args.entries (long h) (a h).args.bytes.now h.loop-place.invariant.1.1.1 s.loop-place-test.true (sym (told s) ∙ not-false _ c.if-not-same.false-raw)
 
 loop-again : tie.Need-loop-place-preserved invariant-loop decreases-loop
 loop-again c =
-    let n = c.before.before.before in let e = n.before.before in let h = e.before.before.before.before.before in
-    let st = h.loop.invariant.1.1.1 in
-    let there = moves_on (a h).args.f (lent (map (λ x. x.now) (a h).args.lists)) h.loop.place st.here (rw c.in-Moved.is at n.next.ensures) in
-    (omega arith, (rw (add-one, suc-mul) (omega (arith, h.loop.invariant.1.0, h.loop.invariant.1.1.0)), (search rules, rw add-one (on (l h) (a h).args.entries (long h) (a h).args.bytes.now (right e) there))))
+    let n = c.before.before.before in let e = n.before.before in let h = e.before.before.before.before in
+    let st = h.loop-place.invariant.1.1.1 in
+    let there = moves_on (a h).args.f (lent (map (λ x. x.now) (a h).args.lists)) h.loop-place.place st.here (rw c.in-Moved.is at n.next.ensures) in
+    (omega arith, (rw (add-one, suc-mul) (omega (arith, h.loop-place.invariant.1.0, h.loop-place.invariant.1.1.0)), (search rules, rw add-one (on (l h) (a h).args.entries (long h) (a h).args.bytes.now (right e) there))))
 
 -- where NEXT hasn't moved, the object was the last
-last : (c : tie.In_default invariant-loop decreases-loop) → let h = c.before.before.before.before.before.before.before.before.before.before in suc h.loop.place ≡ length (l h)
+last : (c : tie.In_default invariant-loop decreases-loop) → let h = c.before.before.before.before.before.before.before.before.before in suc h.loop-place.place ≡ length (l h)
 last c =
-    let n = c.before.before.before in let h = n.before.before.before.before.before.before.before in
-    stops (a h).args.f (lent (map (λ x. x.now) (a h).args.lists)) h.loop.place h.loop.invariant.1.1.1.here (not_moved n.next.result c.in_default.in_default-own.keys2) n.next.ensures
+    let n = c.before.before.before in let h = n.before.before.before.before.before.before in
+    stops (a h).args.f (lent (map (λ x. x.now) (a h).args.lists)) h.loop-place.place h.loop-place.invariant.1.1.1.here (not_moved n.next.result c.in_default.in_default-own.keys2) n.next.ensures
 
 returns-2 : tie.Need-returns-then-place-entries invariant-loop decreases-loop
 returns-2 c =
-    let m = c.before in let e = m.before.before.before.before.before in let h = e.before.before.before.before.before in
+    let m = c.before in let e = m.before.before.before.before.before in let h = e.before.before.before.before in
     sym (whole (l h) (a h).args.entries (long h) (a h).args.bytes.now (right e) (last m) (omega (arith, c.if-place-entries.true)))
 
 returns-3 : tie.Need-returns-in_default invariant-loop decreases-loop
 returns-3 c =
-    let m = c.before in let e = m.before.before.before.before.before in let h = e.before.before.before.before.before in
+    let m = c.before in let e = m.before.before.before.before.before in let h = e.before.before.before.before in
     rw add-one (sym (longer (l h) (a h).args.entries (long h) (a h).args.bytes.now (right e) (last m) (omega (arith, c.if-place-entries.false))))
 
 returns-4 : tie.Need-returns invariant-loop decreases-loop
@@ -103,7 +103,7 @@ compare_spec =
     invariant-loop
     decreases-loop
     (λ c. (omega arith, (omega arith, (refl, start _ _ _ _ c.requires.0))))
-    (λ c. omega (arith, (a c.before).good, within c))
+    (λ c. omega (arith, (a c.before).well_formed, within c))
     (λ c. omega arith)
     (λ c. omega arith)
     (λ c. within c)

@@ -22,14 +22,14 @@ returns c = let e = c.before in let s = e.before.before in off _ _ _ _ s.require
 returns-2 : tie.Need-returns-in-Done
 returns-2 c =
     let u = c.before.before.before in let t = u.before.before in
-    let e = t.before.before in let s = e.before.before in
-    landed _ _ _ _ s.requires.0 s.requires.1 (sym (ap goal_as t.in-At.is) ∙ aimed e.before) (ap written_as c.in-Done.is) u.unrank-answer.ensures
+    let e = t.before in let s = e.before.before in
+    landed _ _ _ _ s.requires.0 s.requires.1 (sym (ap goal_as t.in-At.is) ∙ aimed e) (ap written_as c.in-Done.is) u.unrank-answer.ensures
 
 returns-3 : tie.Need-returns-in-Refused
 returns-3 c =
     let u = c.before.before.before in let t = u.before.before in
-    let e = t.before.before in let s = e.before.before in
-    ended _ _ _ _ s.requires.0 s.requires.1 (sym (ap goal_as t.in-At.is) ∙ aimed e.before) (ap written_as c.in-Refused.is) u.unrank-answer.ensures
+    let e = t.before in let s = e.before.before in
+    ended _ _ _ _ s.requires.0 s.requires.1 (sym (ap goal_as t.in-At.is) ∙ aimed e) (ap written_as c.in-Refused.is) u.unrank-answer.ensures
 
 pub jump_from_spec : {M : Type 1} → statement M
 jump_from_spec =

@@ -37,26 +37,26 @@ module _ (c : tie.After-one_call invariant-loop decreases-loop) where
   within : let size = length a.args.object.now in head.loop-i.i * size + size ≤ length a.args.calls.now * size
   within = turn_within head.loop-i.i (length a.args.calls.now) (length a.args.object.now) inside
 
-mul-one-call : tie.Need-overflow-mul-one-call invariant-loop decreases-loop
-mul-one-call c = let s = entry c.before.before in omega (arith, s.requires, s.good.1.1.1.0)
+mul-one-call : tie.Need-offset_bounds-ranks-i invariant-loop decreases-loop
+mul-one-call c = let s = entry c.before.before in omega (arith, s.requires, s.well_formed.1.1.1.0)
 
 slice-write-answers : tie.Need-bounds-answers-i invariant-loop decreases-loop
 slice-write-answers c = let h = head c.before.before in omega (arith, (entry h).requires, h.loop-i.invariant)
 
 keep-requires : tie.Need-keep-requires invariant-loop decreases-loop
-keep-requires c κs = let o = c.before.before.before.before in omega (arith, (a o).requires, (head o).loop-i.invariant, o.one-call.auto.1.1.1.1.0, within o)
+keep-requires c κs = let o = c.before.before.before in omega (arith, (a o).requires, (head o).loop-i.invariant, o.one_call.auto.object, within o)
 
 add_at : tie.Need-overflow_add-at invariant-loop decreases-loop
-add_at c = let o = c.before.before.before.before.before.before.before in omega (arith, (a o).requires, (a o).well-formed, (head o).loop-i.invariant, o.one-call.auto.1.1.1.1.0, within o)
+add_at c = let o = c.before.before.before.before.before.before in omega (arith, (a o).requires, (a o).well_formed, (head o).loop-i.invariant, o.one_call.auto.object, within o)
 
 loop-again : tie.Need-loop-i-preserved invariant-loop decreases-loop
 loop-again c =
-    let o = c.before.before.before.before.before.before.before in
+    let o = c.before.before.before.before.before.before in
     let l = (head o).loop-i in
     let k = c.keep in
-    let size = o.one-call.auto.1.1.1.1.0 ∙ l.invariant.1.1.0 in
-    let stands = turn _ _ _ _ _ (a o).requires.0 _ _ _ l.invariant.1.1.1.1.1 (inside o) (omega (arith, (a o).requires, l.invariant)) o.one-call.ensures k.ensures in
-    (omega arith, (rw (add-one, suc-mul) (omega (arith, size, l.invariant)), (size, (length-set l.answers l.i o.one-call.result ∙ l.invariant.1.1.1.0, (k.auto.trail ∙ l.invariant.1.1.1.1.0, stands)))))
+    let size = o.one_call.auto.object ∙ l.invariant.1.1.0 in
+    let stands = turn _ _ _ _ _ (a o).requires.0 _ _ _ l.invariant.1.1.1.1.1 (inside o) (omega (arith, (a o).requires, l.invariant)) o.one_call.ensures k.ensures in
+    (omega arith, (rw (add-one, suc-mul) (omega (arith, size, l.invariant)), (size, (length-set l.answers l.i o.one_call.result ∙ l.invariant.1.1.1.0, (k.auto.trail ∙ l.invariant.1.1.1.1.0, stands)))))
 
 returns : tie.Need-returns invariant-loop decreases-loop
 returns c =

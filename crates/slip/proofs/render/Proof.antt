@@ -21,7 +21,7 @@ returns-2 c = let p = c.before.before.before.before.before.before in rendered (s
 returns-3 : tie.Need-returns
 unfolding parsed_as text_of
 returns-3 c =
-    let l = c.before.before.before.before in let f = l.before.before in let h = f.before in let p = h.before in
+    let l = c.before.before.before.before in let f = l.before.before in let h = f.before in let p = h.before.before in
     rendered (start p).args.input.now (omega arith) (p.parse.ensures.1 ∙ ap (λ r. parsed_as r p.parse.new.counts) h.in-Slip.is) (rw (l.only_counts-lists.ensures, f.plain_family-f.ensures) at c.put_text.ensures)
 
 pub render_spec : {M : Type 1} → statement M
@@ -39,7 +39,7 @@ render_spec =
     returns-2
     (λ c κs. search rules)
     (λ c. omega (arith, c.parse.ensures.0 _ _ c.in-Slip.is))
-    (λ c. let p = c.parse in let h = c.head-1 in sym (length-take-le h.given.0.1.0 p.new.counts (omega (arith, p.ensures.0 _ _ h.given.1))))
+    (λ c. let p = c.parse in let h = c.in-Slip in sym (length-take-le h.m p.new.counts (omega (arith, p.ensures.0 _ _ h.is))))
     (λ c κs. search rules)
     (λ c κs. search rules)
     (λ c. search rules)

@@ -41,7 +41,7 @@ abbrev put : tie.After-next invariant-loop decreases-loop → tie.After-put_obje
 put c = c.before.before.before.before
 
 abbrev head : tie.After-put_object-end invariant-loop decreases-loop → tie.At-loop-rank invariant-loop decreases-loop
-head c = c.before.before.before.before
+head c = c.before.before.before
 
 returns : tie.Need-returns-in_default invariant-loop decreases-loop
 returns c =

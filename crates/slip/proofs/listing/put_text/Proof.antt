@@ -2,27 +2,23 @@
 -- Assumes nothing.
 use mathlib.Core.List.{map}
 use borrow.Author.Rules.{rules}
-use Rattle.families.specs.Table.{Lent, lent}
+use Rattle.families.specs.Table.{lent}
 use Rattle.families.proofs.Going.{counted-allowed, many_allowed}
 use Rattle.slip.proofs.Lines.{text_counted, text_refused}
 use Rattle.slip.proofs.listing.put_text.Statement.{statement}
 use Rattle.slip.proofs.listing.put_text.Tie as tie
 
--- the lists lent, where COUNT has answered
-abbrev lists : tie.After-count → Lent
-lists c = lent (map (λ x. x.now) c.before.before.args.lists)
-
 put-counted-requires : tie.Need-put_counted-requires
-put-counted-requires c κs = let e = c.before.before in (search rules, counted-allowed e.args.f (lists e) (rw c.in-Objects.is at e.count.ensures))
+put-counted-requires c κs = (search rules, counted-allowed c.args.f (lent (map (λ x. x.now) c.args.lists)) (rw c.in-Objects.is at c.count.ensures))
 
 put-uncounted-requires : tie.Need-put_uncounted-requires
-put-uncounted-requires c κs = let e = c.before.before in (search rules, λ q. many_allowed e.args.f (lists e) (rw q at (rw c.in-Refused.is at e.count.ensures)))
+put-uncounted-requires c κs = (search rules, λ q. many_allowed c.args.f (lent (map (λ x. x.now) c.args.lists)) (rw q at (rw c.in-Refused.is at c.count.ensures)))
 
 returns : tie.Need-returns-in-Objects
-returns c = let n = c.before.before.before.before in let e = n.before.before in rw (text_counted e.args.start e.args.f (lists e) (rw n.in-Objects.is at e.count.ensures)) c.put_counted.ensures
+returns c = let a = c.args in rw (text_counted a.start a.f (lent (map (λ x. x.now) a.lists)) (rw c.in-Objects.is at c.count.ensures)) c.put_counted.ensures
 
 returns-2 : tie.Need-returns-in-Refused
-returns-2 c = let q = c.before.before.before.before in let e = q.before.before in rw (text_refused e.args.start e.args.f (lists e) (rw q.in-Refused.is at e.count.ensures)) c.put_uncounted.ensures
+returns-2 c = let a = c.args in rw (text_refused a.start a.f (lent (map (λ x. x.now) a.lists)) (rw c.in-Refused.is at c.count.ensures)) c.put_uncounted.ensures
 
 pub put_text_spec : {M : Type 1} → statement M
 put_text_spec =
