@@ -13,21 +13,21 @@ ghost use Rattle.basics.specs.Limits.{places};
 
 use basics::{LONGEST_OBJECT, PLACES};
 use counting::Count;
-use libc::STDIN_FILENO;
-use test_support::{behind, decimal, list, number, text, until};
+use std::io;
+use test_support::{behind, decimal, end_line, list, number, read_input, text, until};
 
 // The rows within the limits, and one beyond them.
 const ROWS: u64 = PLACES + 2;
 
 // What ends every line.
-fn answer(c: Count) {
-    text(b":");
+fn answer(rt: &impl Print, c: Count) -> io::Result<()> {
+    text(rt, b":")?;
     match c {
-        Count::Exactly(v) => number(v),
-        Count::TooLarge => text(b" too large"),
-        Count::Outside => text(b" outside"),
+        Count::Exactly(v) => number(rt, v)?,
+        Count::TooLarge => text(rt, b" too large")?,
+        Count::Outside => text(rt, b" outside")?,
     }
-    text(b"\n");
+    end_line(rt)
 }
 
 // The count whose name begins with the letter; only partitions have a floor.
@@ -42,36 +42,36 @@ fn count(letter: u8, n: u64, k: u64, floor: u64) -> Count {
     }
 }
 
-fn name(letter: u8) {
+fn name(rt: &impl Print, letter: u8) -> io::Result<()> {
     match letter {
-        b'b' => text(b"binomial"),
-        b's' => text(b"stirling"),
-        b'p' => text(b"partitions"),
-        b'f' => text(b"factorial"),
-        b'd' => text(b"derangement"),
-        _ => text(b"catalan"),
+        b'b' => text(rt, b"binomial"),
+        b's' => text(rt, b"stirling"),
+        b'p' => text(rt, b"partitions"),
+        b'f' => text(rt, b"factorial"),
+        b'd' => text(rt, b"derangement"),
+        _ => text(rt, b"catalan"),
     }
 }
 
-fn one(letter: u8, n: u64) {
-    name(letter);
-    number(n);
-    answer(count(letter, n, 0, 1));
+fn one(rt: &impl Print, letter: u8, n: u64) -> io::Result<()> {
+    name(rt, letter)?;
+    number(rt, n)?;
+    answer(rt, count(letter, n, 0, 1))
 }
 
-fn two(letter: u8, n: u64, k: u64) {
-    name(letter);
-    number(n);
-    number(k);
-    answer(count(letter, n, k, 1));
+fn two(rt: &impl Print, letter: u8, n: u64, k: u64) -> io::Result<()> {
+    name(rt, letter)?;
+    number(rt, n)?;
+    number(rt, k)?;
+    answer(rt, count(letter, n, k, 1))
 }
 
-fn three(letter: u8, n: u64, k: u64, floor: u64) {
-    name(letter);
-    number(n);
-    number(k);
-    number(floor);
-    answer(count(letter, n, k, floor));
+fn three(rt: &impl Print, letter: u8, n: u64, k: u64, floor: u64) -> io::Result<()> {
+    name(rt, letter)?;
+    number(rt, n)?;
+    number(rt, k)?;
+    number(rt, floor)?;
+    answer(rt, count(letter, n, k, floor))
 }
 
 // The largest two numbers stand for no count: they have prime factors above the largest n, and a binomial has none.
@@ -84,77 +84,75 @@ fn code(c: Count) -> u64 {
 }
 
 // The two ways to a binomial; a line only where they differ, so none is expected.
-fn agree(n: u64, k: u64) {
+fn agree(rt: &impl Print, n: u64, k: u64) -> io::Result<()> {
     if code(counting::coefficient(n, k)) != code(counting::subset_count(n, k)) {
-        text(b"coefficient");
-        number(n);
-        number(k);
-        answer(counting::coefficient(n, k));
+        text(rt, b"coefficient")?;
+        number(rt, n)?;
+        number(rt, k)?;
+        answer(rt, counting::coefficient(n, k))?;
     }
+    Ok(())
 }
 
 // Every entry of row n, and the one behind it.
-fn rows(n: u64)
+fn rows(rt: &impl Print, n: u64) -> io::Result<()>
     requires { n ≤ places + 1 }
 {
-    let end = n + 2;
-    let mut k: u64 = 0;
-    while k < end {
-        agree(n, k);
-        two(b'b', n, k);
-        two(b's', n, k);
-        two(b'p', n, k);
-        three(b'p', n, k, 2);
-        k += 1;
+    for k in 0..n + 2 {
+        agree(rt, n, k)?;
+        two(rt, b'b', n, k)?;
+        two(rt, b's', n, k)?;
+        two(rt, b'p', n, k)?;
+        three(rt, b'p', n, k, 2)?;
     }
-    one(b'f', n);
-    one(b'c', n);
-    one(b'd', n);
+    one(rt, b'f', n)?;
+    one(rt, b'c', n)?;
+    one(rt, b'd', n)
 }
 
 // A multinomial, of one letter more than there are places at the most.
-fn word(line: &[u8], start: usize) {
+fn word(rt: &impl Print, line: &[u8], start: usize) -> io::Result<()> {
     let mut counts = [0u8; LONGEST_OBJECT + 1];
     let len = list(line, start, &mut counts);
-    answer(counting::multinomial(&counts[..len]));
+    answer(rt, counting::multinomial(&counts[..len]))
 }
 
-fn edge(letter: u8, line: &[u8]) {
+fn edge(rt: &impl Print, letter: u8, line: &[u8]) -> io::Result<()> {
     let colon = until(line, 0, b':');
-    text(&line[..colon]);
+    text(rt, &line[..colon])?;
     let start = behind(line, colon, b':');
     if letter == b'm' {
-        return word(line, start);
+        return word(rt, line, start);
     }
     let n = decimal(line, start);
     let k = decimal(line, n.end);
     let floor = decimal(line, k.end);
-    answer(count(letter, n.value, k.value, floor.value));
+    answer(rt, count(letter, n.value, k.value, floor.value))
 }
 
-fn edges(s: &[u8]) {
+fn edges(rt: &impl Print, s: &[u8]) -> io::Result<()> {
     let mut at = 0;
     while at < s.len() {
         let end = until(s, at, b'\n');
-        edge(s[at], &s[at..end]);
+        edge(rt, s[at], &s[at..end])?;
         if end == s.len() {
-            return;
+            return Ok(());
         }
         at = end + 1;
     }
+    Ok(())
 }
 
-fn all_rows() {
-    let mut n: u64 = 0;
-    while n < ROWS {
-        rows(n);
-        n += 1;
+fn all_rows(rt: &impl Print) -> io::Result<()> {
+    for n in 0..ROWS {
+        rows(rt, n)?;
     }
+    Ok(())
 }
 
-fn main() {
-    let mut input = io::large_buffer();
-    let read = io::read_full(STDIN_FILENO, &mut input);
-    edges(&input[..read]);
-    all_rows();
+fn main(rt: HostRuntime) -> io::Result<()> {
+    let mut input = [0u8; 65536];
+    let read = read_input(&rt, &mut input)?;
+    edges(&rt, &input[..read])?;
+    all_rows(&rt)
 }

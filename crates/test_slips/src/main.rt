@@ -12,7 +12,9 @@ ghost use Rattle.slip.specs.Sizes.{largest};
 
 use grammar::LONGEST_SLIP;
 use slip::{LARGEST, Rendered};
-use test_support::{digest, lines, number, read_file, text};
+use std::rt::Files;
+use std::{env, io};
+use test_support::{digest, end_line, lines, number, read_file, text};
 
 // One byte more than the longest slip, by which a longer input is seen.
 const INPUT: usize = LONGEST_SLIP + 1;
@@ -31,44 +33,36 @@ fn room_to_write() -> [u8; LARGEST]
 }
 
 // The text of one slip.
-fn show(name: &[u8], s: &[u8]) {
-    text(name);
-    text(b": bytes");
-    number(s.len() as u64);
-    text(b", digest");
-    number(digest(0, s));
-    text(b"\n");
+fn show(rt: &impl Print, name: &[u8], s: &[u8]) -> io::Result<()> {
+    text(rt, name)?;
+    text(rt, b": bytes")?;
+    number(rt, s.len() as u64)?;
+    text(rt, b", digest")?;
+    number(rt, digest(0, s))?;
+    end_line(rt)?;
     if s.len() < 600 {
-        lines(name, s);
+        lines(rt, name, s)?;
     }
+    Ok(())
 }
 
 // Reads the file and renders it.
-fn one_slip(name: &[u8], out: &mut [u8])
+fn one_slip<R: Files + Print>(rt: &R, name: &str, out: &mut [u8]) -> io::Result<()>
     requires { largest ≤ length out.old }
 {
     let mut input = room_to_read();
-    let read = read_file(name, &mut input);
+    let read = read_file(rt, name, &mut input)?;
     match slip::render(&input[..read], out) {
-        Rendered::Text(end) => show(name, &out[..end]),
-        Rendered::Short => text(b"no room for the text\n"),
+        Rendered::Text(end) => show(rt, name.as_bytes(), &out[..end]),
+        Rendered::Short => text(rt, b"no room for the text\n"),
     }
 }
 
-fn one_argument(i: usize, out: &mut [u8])
-    requires { largest ≤ length out.old }
-{
-    let mut name = io::buffer();
-    let length = os::arg(i, &mut name);
-    one_slip(&name[..length], out);
-}
-
-fn main() {
+fn main(rt: HostRuntime) -> io::Result<()> {
     let mut out = room_to_write();
-    let end = os::arg_count();
-    let mut i = 1;
-    while i < end {
-        one_argument(i, &mut out);
-        i += 1;
+    // The first argument is the program's name.
+    for name in env::args(&rt)?.skip(1) {
+        one_slip(&rt, &name, &mut out)?;
     }
+    Ok(())
 }

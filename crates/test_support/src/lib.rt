@@ -2,10 +2,11 @@
 // digest of bytes. A line of cases is a label, a colon, and sections with strokes between them; one blank stands between any two words.
 #![tactic(auto)]
 
-ghost use Rattle.std.specs.Prelude.{◌≤◌, length};
+ghost use Rattle.std.specs.Prelude.{◌≤◌, length, IfOk};
 ghost use Rattle.io.specs.Counts.{IsPrefixLen};
 
-use libc::STDOUT_FILENO;
+use std::rt::Files;
+use std::{fs, io};
 
 // A number read from a line, and where the next word begins.
 #[derive(Clone, Copy)]
@@ -20,45 +21,44 @@ pub fn wide(b: u8) -> u64
     b as u64
 }
 
-pub fn text(s: &[u8]) {
-    io::write_all(STDOUT_FILENO, s);
+pub fn text(rt: &impl Print, s: &[u8]) -> io::Result<()> {
+    Print::write_all(rt, s)
 }
 
-pub fn end_line() {
-    text(b"\n");
+pub fn end_line(rt: &impl Print) -> io::Result<()> {
+    text(rt, b"\n")
 }
 
-pub fn number(n: u64) {
-    text(b" ");
-    io::print_decimal(STDOUT_FILENO, n);
+pub fn number(rt: &impl Print, n: u64) -> io::Result<()> {
+    print!(rt; " {n}")
 }
 
-pub fn bytes(object: &[u8]) {
-    let mut i = 0;
-    while i < object.len() {
-        number(wide(object[i]));
-        i += 1;
+pub fn bytes(rt: &impl Print, object: &[u8]) -> io::Result<()> {
+    for b in object {
+        number(rt, wide(*b))?;
     }
+    Ok(())
 }
 
-fn line(label: &[u8], s: &[u8]) {
-    text(label);
-    text(b": ");
-    text(s);
-    end_line();
+fn line(rt: &impl Print, label: &[u8], s: &[u8]) -> io::Result<()> {
+    text(rt, label)?;
+    text(rt, b": ")?;
+    text(rt, s)?;
+    end_line(rt)
 }
 
 // The lines of a text, each with the label in front.
-pub fn lines(label: &[u8], s: &[u8]) {
+pub fn lines(rt: &impl Print, label: &[u8], s: &[u8]) -> io::Result<()> {
     let mut at = 0;
     while at < s.len() {
         let end = until(s, at, b'\n');
-        line(label, &s[at..end]);
+        line(rt, label, &s[at..end])?;
         if end == s.len() {
-            return;
+            return Ok(());
         }
         at = end + 1;
     }
+    Ok(())
 }
 
 // The digest with one number more.
@@ -77,18 +77,37 @@ pub fn digest(start: u64, s: &[u8]) -> u64 {
     sum
 }
 
-// Reads the file, as far as there is room, and answers how many bytes.
-pub fn read_file(name: &[u8], out: &mut [u8]) -> usize
-    ensures { IsPrefixLen result out.new }
+// Reads until the buffer is full or the input ends, and answers how many bytes.
+fn read_full<R: io::Read>(input: &mut R, out: &mut [u8]) -> io::Result<usize>
+    ensures { IfOk result (λ n. IsPrefixLen n out.new) }
 {
-    let fd = os::open_read(name);
-    if fd < 0 {
-        line(name, b"no such file");
-        return 0;
+    let mut done = 0;
+    while done < out.len() {
+        let more = input.read(&mut out[done..])?;
+        if more == 0 {
+            return Ok(done);
+        }
+        done += more;
     }
-    let read = io::read_full(fd, out);
-    libc::close(fd);
-    read
+    Ok(done)
+}
+
+// Reads the file, as far as there is room, and answers how many bytes.
+pub fn read_file<R: Files + Print>(rt: &R, name: &str, out: &mut [u8]) -> io::Result<usize>
+    ensures { IfOk result (λ n. IsPrefixLen n out.new) }
+{
+    let Ok(mut file) = fs::open(rt, name) else {
+        line(rt, name.as_bytes(), b"no such file")?;
+        return Ok(0);
+    };
+    read_full(&mut file, out)
+}
+
+// Reads standard input, as far as there is room, and answers how many bytes.
+pub fn read_input(rt: &impl Input, out: &mut [u8]) -> io::Result<usize>
+    ensures { IfOk result (λ n. IsPrefixLen n out.new) }
+{
+    read_full(&mut rt.reader(), out)
 }
 
 // Where the letter stands, or the end.

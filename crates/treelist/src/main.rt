@@ -1,15 +1,16 @@
 // `treelist`: reads one slip from standard input and prints the listing of its family. What it prints is made, and proved, in `slip`.
-// A program has no exit status: a read or a write that fails is said on standard error, where nothing else is said.
+// Its exit status is always 0: a read or a write that fails is said on standard error, where nothing else is said.
 #![tactic(auto)]
 
-ghost use Rattle.std.specs.Prelude.{◌≡◌, ℕ, ◌+◌, ◌≤◌, length};
+ghost use Rattle.std.specs.Prelude.{◌≡◌, ◌+◌, ◌≤◌, length, IfOk};
 ghost use Rattle.grammar.specs.Sizes.{longest_slip};
 ghost use Rattle.slip.specs.Sizes.{largest};
-ghost use Rattle.treelist.specs.declared.Input.TheVariants.{Bytes};
 
 use grammar::LONGEST_SLIP;
-use libc::{STDERR_FILENO, STDIN_FILENO, STDOUT_FILENO};
 use slip::{LARGEST, Rendered};
+use std::fmt::Display;
+use std::io;
+use std::io::Read;
 
 // One byte more than the longest slip, by which a longer input is seen.
 const INPUT: usize = LONGEST_SLIP + 1;
@@ -27,77 +28,66 @@ fn room_to_write() -> [u8; LARGEST]
     [0u8; LARGEST]
 }
 
-// So many bytes of input, at the start of the buffer; or a read failed.
-#[derive(Clone, Copy)]
-enum Input {
-    Bytes(usize),
-    Failed,
-}
-
-// Reads until the buffer is full or the input ends, and never past its end, which a terminal would ask for once more.
-fn read_input(buf: &mut [u8]) -> Input
-    ensures { (n : ℕ) → result ≡ Bytes n → n ≤ length buf.new }
+// Reads until the buffer is full or the input ends, and never past its end, which a terminal would ask for once more. Answers how many bytes
+// of input stand at the start of the buffer.
+fn read_input(rt: &impl Input, buf: &mut [u8]) -> io::Result<usize>
+    ensures { IfOk result (λ n. n ≤ length buf.new) }
 {
+    let mut input = rt.reader();
     let mut done = 0;
     while done < buf.len() {
-        let got = libc::read(STDIN_FILENO, &mut buf[done..]);
-        if got < 0 {
-            return Input::Failed;
-        }
-        let more = io::count(got, &buf[done..]);
+        let more = input.read(&mut buf[done..])?;
         if more == 0 {
-            return Input::Bytes(done);
+            return Ok(done);
         }
         done += more;
     }
-    Input::Bytes(done)
+    Ok(done)
 }
 
-// All was written; or a write failed; or one took nothing, of which the system says no more.
+// All was written; or a write took nothing, of which the system says no more.
 #[derive(Clone, Copy)]
 enum Output {
     Whole,
-    Failed,
     Cut,
 }
 
-fn write_text(text: &[u8]) -> Output {
+fn write_text(rt: &impl Print, text: &[u8]) -> io::Result<Output> {
     let mut done = 0;
     while done < text.len() {
-        let put = libc::write(STDOUT_FILENO, &text[done..]);
-        if put < 0 {
-            return Output::Failed;
-        }
-        let more = io::count(put, &text[done..]);
+        let more = rt.write_some(&text[done..])?;
         if more == 0 {
-            return Output::Cut;
+            return Ok(Output::Cut);
         }
         done += more;
     }
-    Output::Whole
+    Ok(Output::Whole)
+}
+
+// Says on standard error what failed, and why. Where that can't be written either, nobody is left to be told.
+fn fail(rt: &impl Eprint, what: &str, why: impl Display + Drop) {
+    let _ = eprintln!(rt; "treelist: {what}: {why}");
 }
 
 // Prints the text, or says why not.
-fn print(text: &[u8]) {
-    match write_text(text) {
-        Output::Whole => {}
-        Output::Failed => os::fail(b"treelist: standard output"),
-        Output::Cut => {
-            io::write_all(STDERR_FILENO, b"treelist: standard output: cut short\n");
-        }
+fn print(rt: &(impl Print + Eprint), text: &[u8]) {
+    match write_text(rt, text) {
+        Ok(Output::Whole) => {}
+        Ok(Output::Cut) => fail(rt, "standard output", "cut short"),
+        Err(e) => fail(rt, "standard output", e),
     }
 }
 
-fn main() {
+fn main(rt: HostRuntime) {
     let mut input = room_to_read();
-    let Input::Bytes(read) = read_input(&mut input) else {
-        os::fail(b"treelist: standard input");
-        return;
+    let read = match read_input(&rt, &mut input) {
+        Ok(read) => read,
+        Err(e) => return fail(&rt, "standard input", e),
     };
     let mut out = room_to_write();
     // So much room serves every slip: the buffer is never short.
     let Rendered::Text(end) = slip::render(&input[..read], &mut out) else {
         return;
     };
-    print(&out[..end]);
+    print(&rt, &out[..end]);
 }
