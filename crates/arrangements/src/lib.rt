@@ -1,5 +1,5 @@
 // The calls for programs in C and Rust: a family by value, the lists behind one reference, byte slices; a code out, values through a lent
-// number. include/arrangements.h declares them.
+// number. `arrangements_c` exports them, and include/arrangements.h declares them.
 #![tactic(auto)]
 
 ghost use Rattle.std.specs.Prelude.{◌≡◌, [], map, length};
@@ -37,8 +37,7 @@ fn plain(code: u8) -> u32
     code as u32
 }
 
-#[unsafe(no_mangle)]
-pub extern "C" fn arrangement_object_length(f: Family, lists: &Lists, value: &mut u64) -> u32
+pub fn arrangement_object_length(f: Family, lists: &Lists, value: &mut u64) -> u32
     ensures { ◌≡◌ {A = Valued} (result, value.new) (valued (measured f (lent (map (λ x. x.now) lists.now))) value.old) }
 {
     let answer = families::object_length(f, by_value(lists));
@@ -51,8 +50,7 @@ pub extern "C" fn arrangement_object_length(f: Family, lists: &Lists, value: &mu
     }
 }
 
-#[unsafe(no_mangle)]
-pub extern "C" fn arrangement_count(f: Family, lists: &Lists, value: &mut u64) -> u32
+pub fn arrangement_count(f: Family, lists: &Lists, value: &mut u64) -> u32
     ensures { ◌≡◌ {A = Valued} (result, value.new) (valued (respond COUNT f (lent (map (λ x. x.now) lists.now)) []).0 value.old) }
 {
     let answer = families::count(f, by_value(lists));
@@ -65,36 +63,31 @@ pub extern "C" fn arrangement_count(f: Family, lists: &Lists, value: &mut u64) -
     }
 }
 
-#[unsafe(no_mangle)]
-pub extern "C" fn arrangement_first(f: Family, lists: &Lists, object: &mut [u8]) -> u32
+pub fn arrangement_first(f: Family, lists: &Lists, object: &mut [u8]) -> u32
     ensures { ◌≡◌ {A = Coded} (result, object.new) (told (respond FIRST f (lent (map (λ x. x.now) lists.now)) object.old)) }
 {
     plain(codes::written(families::first(f, by_value(lists), object)))
 }
 
-#[unsafe(no_mangle)]
-pub extern "C" fn arrangement_last(f: Family, lists: &Lists, object: &mut [u8]) -> u32
+pub fn arrangement_last(f: Family, lists: &Lists, object: &mut [u8]) -> u32
     ensures { ◌≡◌ {A = Coded} (result, object.new) (told (respond LAST f (lent (map (λ x. x.now) lists.now)) object.old)) }
 {
     plain(codes::written(families::last(f, by_value(lists), object)))
 }
 
-#[unsafe(no_mangle)]
-pub extern "C" fn arrangement_next(f: Family, lists: &Lists, object: &mut [u8]) -> u32
+pub fn arrangement_next(f: Family, lists: &Lists, object: &mut [u8]) -> u32
     ensures { ◌≡◌ {A = Coded} (result, object.new) (told (respond NEXT f (lent (map (λ x. x.now) lists.now)) object.old)) }
 {
     plain(codes::stepped(families::next(f, by_value(lists), object)))
 }
 
-#[unsafe(no_mangle)]
-pub extern "C" fn arrangement_previous(f: Family, lists: &Lists, object: &mut [u8]) -> u32
+pub fn arrangement_previous(f: Family, lists: &Lists, object: &mut [u8]) -> u32
     ensures { ◌≡◌ {A = Coded} (result, object.new) (told (respond PREVIOUS f (lent (map (λ x. x.now) lists.now)) object.old)) }
 {
     plain(codes::stepped(families::previous(f, by_value(lists), object)))
 }
 
-#[unsafe(no_mangle)]
-pub extern "C" fn arrangement_rank(f: Family, lists: &Lists, object: &[u8], value: &mut u64) -> u32
+pub fn arrangement_rank(f: Family, lists: &Lists, object: &[u8], value: &mut u64) -> u32
     ensures { ◌≡◌ {A = Valued} (result, value.new) (valued (respond RANK f (lent (map (λ x. x.now) lists.now)) object.now).0 value.old) }
 {
     let answer = families::rank(f, by_value(lists), object);
@@ -107,23 +100,20 @@ pub extern "C" fn arrangement_rank(f: Family, lists: &Lists, object: &[u8], valu
     }
 }
 
-#[unsafe(no_mangle)]
-pub extern "C" fn arrangement_unrank(rank: u64, f: Family, lists: &Lists, object: &mut [u8]) -> u32
+pub fn arrangement_unrank(rank: u64, f: Family, lists: &Lists, object: &mut [u8]) -> u32
     ensures { ◌≡◌ {A = Coded} (result, object.new) (told (respond (UNRANK rank) f (lent (map (λ x. x.now) lists.now)) object.old)) }
 {
     plain(codes::written(families::unrank(rank, f, by_value(lists), object)))
 }
 
-#[unsafe(no_mangle)]
-pub extern "C" fn arrangement_jump(f: Family, lists: &Lists, d: i64, object: &mut [u8]) -> u32
+pub fn arrangement_jump(f: Family, lists: &Lists, d: i64, object: &mut [u8]) -> u32
     ensures { ◌≡◌ {A = Coded} (result, object.new) (told (jump_of f (lent (map (λ x. x.now) lists.now)) d object.old)) }
 {
     plain(jump::code(jump::jump(f, by_value(lists), d, object)))
 }
 
 // A check leaves the place open where several are wrong, and so does its contract: what is told is told of some answer that a check may give.
-#[unsafe(no_mangle)]
-pub extern "C" fn arrangement_check(
+pub fn arrangement_check(
     f: Family,
     lists: &Lists,
     entries: u64,
@@ -154,20 +144,13 @@ fn walk_step(way: Way, f: Family, lists: &Lists, object: &mut [u8], number: &mut
     plain(codes::stepped(answer))
 }
 
-#[unsafe(no_mangle)]
-pub extern "C" fn arrangement_walk_next(
-    f: Family,
-    lists: &Lists,
-    object: &mut [u8],
-    number: &mut u64,
-) -> u32
+pub fn arrangement_walk_next(f: Family, lists: &Lists, object: &mut [u8], number: &mut u64) -> u32
     ensures { ◌≡◌ {A = CodedStep} (result, kept object.new number.new) (told_step (step_kept Forth f (lent (map (λ x. x.now) lists.now)) (length object.old) (kept object.old number.old))) }
 {
     walk_step(Way::Forth, f, lists, object, number)
 }
 
-#[unsafe(no_mangle)]
-pub extern "C" fn arrangement_walk_previous(
+pub fn arrangement_walk_previous(
     f: Family,
     lists: &Lists,
     object: &mut [u8],
