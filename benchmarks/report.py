@@ -242,7 +242,7 @@ def targets():
 
 
 say("# Benchmarks", "", f"Written by `benchmarks/run` on {datetime.date.today()}: {shell('lscpu | sed -n s/^Model.name:[[:space:]]*//p')}, {shell('gcc --version | head -1')}, -O2.", "")
-say("Method. `benchmarks/measure.c` calls the library (`rt staticlib arrangements`) and `benchmarks/plain.c`, a plain implementation in C that puts the",
+say("Method. `benchmarks/measure.c` calls the library (`tools/archive`) and `benchmarks/plain.c`, a plain implementation in C that puts the",
     "same questions and reads tables built beforehand, on the same 256 random objects and ranks of each family, in one run; the two must agree on",
     "every call first. A time is the best of nine rounds of some 4 ms each in turn, at each of four places of the library in a line of 64 bytes (elsewhere in",
     "it the same code takes up to a quarter more), in nanoseconds a call, with the copy of the object that a step is made on.",

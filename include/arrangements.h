@@ -1,7 +1,7 @@
 /* Arrangement numbers: the seven calls on families of combinatorial objects, the length of an object, jumps, walks that know their number, and the
  * check of a listing.
  *
- * Build the library with `rt staticlib arrangements` and link target/staticlib/libarrangements.a.
+ * Build the library with tools/archive and link target/staticlib/libarrangements.a.
  * docs/SCOPE.md says what families, orders, calls and questions are, docs/PROMISES.md what is proved.
  *
  * Every call answers any family, lists and bytes. It asks only this of its pointers, and what it does is undefined only where this fails:

@@ -1,4 +1,4 @@
-// Links the static library that `rt staticlib arrangements` writes.
+// Links the static library that tools/archive writes.
 fn main() {
     let root = std::path::Path::new(env!("CARGO_MANIFEST_DIR")).join("../..");
     let library = root.join("target/staticlib");
