@@ -1,5 +1,6 @@
 // The calls by their letters, their answers, and how both are printed.
 use families::{Counted, Family, Lists, Ranked, Stepped, Written};
+use std::io;
 use test_support::{number, text, wide};
 
 // What any call answers.
@@ -61,29 +62,29 @@ pub fn is_put(heard: Heard) -> bool {
     }
 }
 
-pub fn answer(heard: Heard) {
+pub fn answer(rt: &impl Print, heard: Heard) -> io::Result<()> {
     match heard {
-        Heard::Number(v) => number(v),
-        Heard::Written => text(b" written"),
-        Heard::Stepped => text(b" stepped"),
-        Heard::End => text(b" END"),
+        Heard::Number(v) => number(rt, v),
+        Heard::Written => text(rt, b" written"),
+        Heard::Stepped => text(rt, b" stepped"),
+        Heard::End => text(rt, b" END"),
         Heard::Refused(q) => {
-            text(b" refused");
-            number(q);
+            text(rt, b" refused")?;
+            number(rt, q)
         }
     }
 }
 
 // What the letter asks.
-pub fn title(letter: u8) {
+pub fn title(rt: &impl Print, letter: u8) -> io::Result<()> {
     match letter {
-        b'c' => text(b", COUNT"),
-        b'r' => text(b", RANK"),
-        b'f' | b'F' => text(b", FIRST"),
-        b'l' | b'L' => text(b", LAST"),
-        b'u' | b'U' => text(b", UNRANK"),
-        b'n' | b'N' => text(b", NEXT"),
-        _ => text(b", PREVIOUS"),
+        b'c' => text(rt, b", COUNT"),
+        b'r' => text(rt, b", RANK"),
+        b'f' | b'F' => text(rt, b", FIRST"),
+        b'l' | b'L' => text(rt, b", LAST"),
+        b'u' | b'U' => text(rt, b", UNRANK"),
+        b'n' | b'N' => text(rt, b", NEXT"),
+        _ => text(rt, b", PREVIOUS"),
     }
 }
 

@@ -35,80 +35,90 @@ mod walks;
 use basics::LONGEST_OBJECT;
 use calls::{Heard, answer, call, is_put, title};
 use families::{Family, Lists};
+use std::rt::Files;
+use std::{env, io};
 use test_support::{behind, bytes, decimal, end_line, list, number, text, until};
 use walks::{summed, walk, with_object};
 
+// As much of a file as is read.
+const ROOM: usize = 65536;
+
 // How a call's line begins.
-fn heading(label: &[u8], letter: u8, rank: u64) {
-    text(label);
-    title(letter);
+fn heading(rt: &impl Print, label: &[u8], letter: u8, rank: u64) -> io::Result<()> {
+    text(rt, label)?;
+    title(rt, letter)?;
     match letter {
-        b'u' | b'U' => number(rank),
+        b'u' | b'U' => number(rt, rank)?,
         _ => {}
     }
-    text(b":");
+    text(rt, b":")
 }
 
 // How it ends: of COUNT and RANK by the number, of the others by the answer and a digest of the object, or by the object.
-fn report(letter: u8, heard: Heard, object: &[u8]) {
+fn report(rt: &impl Print, letter: u8, heard: Heard, object: &[u8]) -> io::Result<()> {
     match letter {
         b'c' | b'r' => {
-            answer(heard);
-            end_line();
+            answer(rt, heard)?;
+            end_line(rt)
         }
         b'A'..=b'Z' => {
-            shown(heard, object);
-            end_line();
+            shown(rt, heard, object)?;
+            end_line(rt)
         }
         _ => {
-            answer(heard);
-            summed(with_object(0, object));
+            answer(rt, heard)?;
+            summed(rt, with_object(0, object))
         }
     }
 }
 
-fn shown(heard: Heard, object: &[u8]) {
+fn shown(rt: &impl Print, heard: Heard, object: &[u8]) -> io::Result<()> {
     if is_put(heard) {
-        return bytes(object);
+        return bytes(rt, object);
     }
-    answer(heard);
+    answer(rt, heard)
 }
 
 fn operation<'a>(
+    rt: &impl Print,
     label: &[u8],
     letter: u8,
     rank: u64,
     f: Family,
     lists: Lists<'a>,
     object: &mut [u8],
-) {
+) -> io::Result<()> {
     match letter {
-        b'w' | b'b' | b't' | b'>' | b'<' | b'a' | b'z' => walk(label, letter, f, lists, object),
+        b'w' | b'b' | b't' | b'>' | b'<' | b'a' | b'z' => {
+            walk(rt, label, letter, f, lists, object)
+        }
         _ => {
-            heading(label, letter, rank);
+            heading(rt, label, letter, rank)?;
             let heard = call(letter, rank, f, lists, object);
-            report(letter, heard, object);
+            report(rt, letter, heard, object)
         }
     }
 }
 
 // The letters, up to the first blank.
 fn operations<'a>(
+    rt: &impl Print,
     label: &[u8],
     letters: &[u8],
     rank: u64,
     f: Family,
     lists: Lists<'a>,
     object: &mut [u8],
-) {
+) -> io::Result<()> {
     let mut i = 0;
     while i < letters.len() {
         if letters[i] == b' ' {
-            return;
+            return Ok(());
         }
-        operation(label, letters[i], rank, f, lists, object);
+        operation(rt, label, letters[i], rank, f, lists, object)?;
         i += 1;
     }
+    Ok(())
 }
 
 // The family that a section says.
@@ -126,7 +136,15 @@ fn family(line: &[u8], start: usize) -> Family {
 }
 
 // The sections from the object on: it is read, then the lists lent beside the family, and the letters are asked.
-fn lend(label: &[u8], letters: &[u8], rank: u64, f: Family, line: &[u8], start: usize)
+fn lend(
+    rt: &impl Print,
+    label: &[u8],
+    letters: &[u8],
+    rank: u64,
+    f: Family,
+    line: &[u8],
+    start: usize,
+) -> io::Result<()>
     requires { start ≤ length line.now }
 {
     let mut object = [0u8; LONGEST_OBJECT];
@@ -134,10 +152,10 @@ fn lend(label: &[u8], letters: &[u8], rank: u64, f: Family, line: &[u8], start: 
     let mut counts = [0u8; LONGEST_OBJECT];
     let lent = list(line, behind(line, start, b'/'), &mut counts);
     let lists = families::only_counts(&counts[..lent]);
-    operations(label, letters, rank, f, lists, &mut object[..places]);
+    operations(rt, label, letters, rank, f, lists, &mut object[..places])
 }
 
-fn one_case(line: &[u8]) {
+fn one_case(rt: &impl Print, line: &[u8]) -> io::Result<()> {
     let colon = until(line, 0, b':');
     let asked = behind(line, colon, b':');
     // The word of letters is passed as a number is.
@@ -145,40 +163,39 @@ fn one_case(line: &[u8]) {
     let first = behind(line, asked, b'/');
     let second = behind(line, first, b'/');
     lend(
+        rt,
         &line[..colon],
         &line[asked..],
         rank,
         family(line, first),
         line,
         second,
-    );
+    )
 }
 
-fn cases(s: &[u8]) {
+fn cases(rt: &impl Print, s: &[u8]) -> io::Result<()> {
     let mut at = 0;
     while at < s.len() {
         let end = until(s, at, b'\n');
-        one_case(&s[at..end]);
+        one_case(rt, &s[at..end])?;
         if end == s.len() {
-            return;
+            return Ok(());
         }
         at = end + 1;
     }
+    Ok(())
 }
 
-fn file(i: usize) {
-    let mut name = io::buffer();
-    let length = os::arg(i, &mut name);
-    let mut input = io::large_buffer();
-    let read = test_support::read_file(&name[..length], &mut input);
-    cases(&input[..read]);
+fn file<R: Files + Print>(rt: &R, name: &str) -> io::Result<()> {
+    let mut input = [0u8; ROOM];
+    let read = test_support::read_file(rt, name, &mut input)?;
+    cases(rt, &input[..read])
 }
 
-fn main() {
-    let end = os::arg_count();
-    let mut i = 1;
-    while i < end {
-        file(i);
-        i += 1;
+fn main(rt: HostRuntime) -> io::Result<()> {
+    // The first is the program's own name.
+    for name in env::args(&rt)?.skip(1) {
+        file(&rt, name.as_str())?;
     }
+    Ok(())
 }

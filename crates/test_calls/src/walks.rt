@@ -1,6 +1,7 @@
 // Walks through a listing, by steps or through the ranks.
 use crate::calls::{Heard, answer, call, is_put, number_of, title};
 use families::{Family, Lists};
+use std::io;
 use test_support::{bytes, digest, end_line, mixed, number, text};
 
 // More objects than any walk to the end meets here.
@@ -23,46 +24,55 @@ pub fn with_object(sum: u64, object: &[u8]) -> u64 {
 }
 
 // How a walk's line begins.
-fn heading(label: &[u8], way: Route) {
-    text(label);
-    title(way.start);
-    title(way.step);
-    text(b" ..:");
+fn heading(rt: &impl Print, label: &[u8], way: Route) -> io::Result<()> {
+    text(rt, label)?;
+    title(rt, way.start)?;
+    title(rt, way.step)?;
+    text(rt, b" ..:")
 }
 
 // Going on through a listing: the object, its rank, and the object of that rank, written over zeros.
-fn listed<'a>(f: Family, lists: Lists<'a>, object: &mut [u8]) {
-    bytes(object);
-    title(b'r');
+fn listed<'a>(rt: &impl Print, f: Family, lists: Lists<'a>, object: &mut [u8]) -> io::Result<()> {
+    bytes(rt, object)?;
+    title(rt, b'r')?;
     let rank = number_of(call(b'r', 0, f, lists, object));
-    number(rank);
-    title(b'u');
+    number(rt, rank)?;
+    title(rt, b'u')?;
     listings::fill_with(object, 0);
     call(b'u', rank, f, lists, object);
-    bytes(object);
-    end_line();
+    bytes(rt, object)?;
+    end_line(rt)
 }
 
 // The line of an object that a walk meets: in a listing, and through the ranks where the rank differs.
-fn meet<'a>(label: &[u8], letter: u8, met: u64, f: Family, lists: Lists<'a>, object: &mut [u8]) {
+fn meet<'a>(
+    rt: &impl Print,
+    label: &[u8],
+    letter: u8,
+    met: u64,
+    f: Family,
+    lists: Lists<'a>,
+    object: &mut [u8],
+) -> io::Result<()> {
     match letter {
         b'a' => {
-            heading(label, route_of(letter));
-            listed(f, lists, object);
+            heading(rt, label, route_of(letter))?;
+            listed(rt, f, lists, object)
         }
         b'z' => {
-            heading(label, route_of(letter));
-            bytes(object);
-            end_line();
+            heading(rt, label, route_of(letter))?;
+            bytes(rt, object)?;
+            end_line(rt)
         }
         b't' => {
             if number_of(call(b'r', 0, f, lists, object)) != met {
-                heading(label, route_of(letter));
-                text(b" rank differs");
-                end_line();
+                heading(rt, label, route_of(letter))?;
+                text(rt, b" rank differs")?;
+                end_line(rt)?;
             }
+            Ok(())
         }
-        _ => {}
+        _ => Ok(()),
     }
 }
 
@@ -97,27 +107,41 @@ fn route_of(letter: u8) -> Route {
 }
 
 // Where a walk is no listing, its line.
-fn ended(label: &[u8], letter: u8, heard: Heard, objects: u64, sum: u64) {
+fn ended(
+    rt: &impl Print,
+    label: &[u8],
+    letter: u8,
+    heard: Heard,
+    objects: u64,
+    sum: u64,
+) -> io::Result<()> {
     match letter {
-        b'a' | b'z' => {}
+        b'a' | b'z' => Ok(()),
         _ => {
-            heading(label, route_of(letter));
-            answer(heard);
-            text(b", objects");
-            number(objects);
-            summed(sum);
+            heading(rt, label, route_of(letter))?;
+            answer(rt, heard)?;
+            text(rt, b", objects")?;
+            number(rt, objects)?;
+            summed(rt, sum)
         }
     }
 }
 
 // How a line with a digest ends.
-pub fn summed(sum: u64) {
-    text(b", digest");
-    number(sum);
-    end_line();
+pub fn summed(rt: &impl Print, sum: u64) -> io::Result<()> {
+    text(rt, b", digest")?;
+    number(rt, sum)?;
+    end_line(rt)
 }
 
-pub fn walk<'a>(label: &[u8], letter: u8, f: Family, lists: Lists<'a>, object: &mut [u8]) {
+pub fn walk<'a>(
+    rt: &impl Print,
+    label: &[u8],
+    letter: u8,
+    f: Family,
+    lists: Lists<'a>,
+    object: &mut [u8],
+) -> io::Result<()> {
     let way = route_of(letter);
     let limit = way.limit;
     let mut sum = 0;
@@ -125,12 +149,12 @@ pub fn walk<'a>(label: &[u8], letter: u8, f: Family, lists: Lists<'a>, object: &
     let mut heard = call(way.start, 0, f, lists, object);
     while met < limit && is_put(heard) {
         sum = with_object(sum, object);
-        meet(label, letter, met, f, lists, object);
+        meet(rt, label, letter, met, f, lists, object)?;
         met += 1;
         let next = call(way.step, met, f, lists, object);
         if limit == TO_THE_END {
             heard = next;
         }
     }
-    ended(label, letter, heard, met, sum);
+    ended(rt, label, letter, heard, met, sum)
 }

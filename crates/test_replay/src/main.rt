@@ -18,16 +18,25 @@ ghost use Rattle.std.specs.Prelude.{◌≤◌, length};
 use basics::LONGEST_OBJECT;
 use families::{Family, Lists};
 use replay::Replayed;
+use std::rt::Files;
+use std::{env, io};
 use test_support::{behind, bytes, decimal, end_line, list, text, until, wide_list, within};
+
+// As much of a file as is read.
+const ROOM: usize = 65536;
 
 // The most calls of a case.
 const MOST: usize = 100;
+
+// The most bytes after the calls.
+const LONGEST_TRAIL: usize = 4096;
 
 // What a buffer holds before the calls.
 const UNWRITTEN: u8 = 255;
 
 // Replays, and prints what is left in the buffers.
 fn show<'a>(
+    rt: &impl Print,
     label: &[u8],
     calls: &[u8],
     ranks: &[u64],
@@ -36,25 +45,26 @@ fn show<'a>(
     object: &mut [u8],
     answers: &mut [u8],
     trail: &mut [u8],
-) {
+) -> io::Result<()> {
     listings::fill_with(answers, UNWRITTEN);
     listings::fill_with(trail, UNWRITTEN);
-    text(label);
+    text(rt, label)?;
     match replay::replay(calls, ranks, f, lists, object, answers, trail) {
-        Replayed::Ran => text(b": ran"),
-        Replayed::Misfit => text(b": misfit"),
+        Replayed::Ran => text(rt, b": ran")?,
+        Replayed::Misfit => text(rt, b": misfit")?,
     }
-    text(b", answers");
-    bytes(answers);
-    text(b", trail");
-    bytes(trail);
-    text(b", object");
-    bytes(object);
-    end_line();
+    text(rt, b", answers")?;
+    bytes(rt, answers)?;
+    text(rt, b", trail")?;
+    bytes(rt, trail)?;
+    text(rt, b", object")?;
+    bytes(rt, object)?;
+    end_line(rt)
 }
 
 // The last section: the buffers of the record are lent.
 fn record<'a>(
+    rt: &impl Print,
     label: &[u8],
     calls: &[u8],
     ranks: &[u64],
@@ -63,13 +73,14 @@ fn record<'a>(
     object: &mut [u8],
     line: &[u8],
     start: usize,
-) {
+) -> io::Result<()> {
     let answered = decimal(line, start);
     let mut answers = [0u8; MOST];
     let a = within(answered.value, &answers);
-    let mut trail = io::buffer();
+    let mut trail = [0u8; LONGEST_TRAIL];
     let t = within(decimal(line, answered.end).value, &trail);
     show(
+        rt,
         label,
         calls,
         ranks,
@@ -78,7 +89,7 @@ fn record<'a>(
         object,
         &mut answers[..a],
         &mut trail[..t],
-    );
+    )
 }
 
 // The family that a section says.
@@ -96,7 +107,14 @@ fn family(line: &[u8], start: usize) -> Family {
 }
 
 // The sections from the family on: the object is read, then the lists lent beside the family.
-fn lend(label: &[u8], calls: &[u8], ranks: &[u64], line: &[u8], start: usize)
+fn lend(
+    rt: &impl Print,
+    label: &[u8],
+    calls: &[u8],
+    ranks: &[u64],
+    line: &[u8],
+    start: usize,
+) -> io::Result<()>
     requires { start ≤ length line.now }
 {
     let first = behind(line, start, b'/');
@@ -106,6 +124,7 @@ fn lend(label: &[u8], calls: &[u8], ranks: &[u64], line: &[u8], start: usize)
     let mut counts = [0u8; LONGEST_OBJECT];
     let lent = list(line, second, &mut counts);
     record(
+        rt,
         label,
         calls,
         ranks,
@@ -114,10 +133,10 @@ fn lend(label: &[u8], calls: &[u8], ranks: &[u64], line: &[u8], start: usize)
         &mut object[..places],
         line,
         behind(line, second, b'/'),
-    );
+    )
 }
 
-fn one_case(line: &[u8]) {
+fn one_case(rt: &impl Print, line: &[u8]) -> io::Result<()> {
     let colon = until(line, 0, b':');
     let first = behind(line, colon, b':');
     let second = behind(line, first, b'/');
@@ -126,39 +145,38 @@ fn one_case(line: &[u8]) {
     let mut ranks = [0u64; MOST];
     let ranked = wide_list(line, second, &mut ranks);
     lend(
+        rt,
         &line[..colon],
         &calls[..called],
         &ranks[..ranked],
         line,
         behind(line, second, b'/'),
-    );
+    )
 }
 
-fn cases(s: &[u8]) {
+fn cases(rt: &impl Print, s: &[u8]) -> io::Result<()> {
     let mut at = 0;
     while at < s.len() {
         let end = until(s, at, b'\n');
-        one_case(&s[at..end]);
+        one_case(rt, &s[at..end])?;
         if end == s.len() {
-            return;
+            return Ok(());
         }
         at = end + 1;
     }
+    Ok(())
 }
 
-fn file(i: usize) {
-    let mut name = io::buffer();
-    let length = os::arg(i, &mut name);
-    let mut input = io::large_buffer();
-    let read = test_support::read_file(&name[..length], &mut input);
-    cases(&input[..read]);
+fn file<R: Files + Print>(rt: &R, name: &str) -> io::Result<()> {
+    let mut input = [0u8; ROOM];
+    let read = test_support::read_file(rt, name, &mut input)?;
+    cases(rt, &input[..read])
 }
 
-fn main() {
-    let end = os::arg_count();
-    let mut i = 1;
-    while i < end {
-        file(i);
-        i += 1;
+fn main(rt: HostRuntime) -> io::Result<()> {
+    // The first is the program's own name.
+    for name in env::args(&rt)?.skip(1) {
+        file(&rt, name.as_str())?;
     }
+    Ok(())
 }

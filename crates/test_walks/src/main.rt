@@ -25,11 +25,16 @@ ghost use Rattle.std.specs.Prelude.{◌≡◌, ◌≤◌, length, take};
 
 use basics::LONGEST_OBJECT;
 use families::{Family, Lists, Ranked, codes};
+use std::rt::Files;
+use std::{env, io};
 use test_support::{
     behind, bytes, decimal, digest, end_line, list, mixed, number, text, until, wide, wide_list,
     within,
 };
 use walk::{Stride, Walk};
+
+// As much of a file as is read.
+const ROOM: usize = 65536;
 
 // The most bytes at a start, more than any object has; the most steps of a leg, and the most room for answers.
 const MOST: usize = 100;
@@ -37,40 +42,44 @@ const MOST: usize = 100;
 // What the room for answers holds before the steps.
 const UNWRITTEN: u8 = 255;
 
-fn ranked(answer: Ranked) {
+fn ranked(rt: &impl Print, answer: Ranked) -> io::Result<()> {
     match answer {
-        Ranked::Rank(r) => number(r),
+        Ranked::Rank(r) => number(rt, r),
         Ranked::Refused(q) => {
-            text(b" refused");
-            number(wide(q));
+            text(rt, b" refused")?;
+            number(rt, wide(q))
         }
     }
 }
 
 // A digest of all that a walk keeps.
-fn summed(walk: Walk) {
+fn summed(rt: &impl Print, walk: Walk) -> io::Result<()> {
     let f = walk.family;
     let array = walk.bytes;
     let family = mixed(
         mixed(mixed(mixed(mixed(0, f.kind), f.n), f.k), f.floor),
         f.edition,
     );
-    text(b" digest");
-    number(digest(mixed(mixed(family, walk.len), walk.number), &array));
+    text(rt, b" digest")?;
+    number(
+        rt,
+        digest(mixed(mixed(family, walk.len), walk.number), &array),
+    )
 }
 
 // What a walk keeps, the bytes where its array has so many.
-fn kept(walk: Walk) {
+fn kept(rt: &impl Print, walk: Walk) -> io::Result<()> {
     let array = walk.bytes;
     let len = within(walk.len, &array);
-    text(b"; length");
-    number(walk.len);
-    text(b", number");
-    number(walk.number);
+    text(rt, b"; length")?;
+    number(rt, walk.len)?;
+    text(rt, b", number")?;
+    number(rt, walk.number)?;
     if walk.len == len as u64 {
-        text(b", bytes");
-        bytes(&array[..len]);
+        text(rt, b", bytes")?;
+        bytes(rt, &array[..len])?;
     }
+    Ok(())
 }
 
 // A step one way.
@@ -82,48 +91,61 @@ fn stepped<'a>(walk: Walk, lists: Lists<'a>, on: bool) -> Stride {
 }
 
 // One step, and what is printed of it.
-fn one_step<'a, 'b>(walk: Walk, first: Lists<'a>, lists: Lists<'b>, on: bool) -> Walk {
+fn one_step<'a, 'b>(
+    rt: &impl Print,
+    walk: Walk,
+    first: Lists<'a>,
+    lists: Lists<'b>,
+    on: bool,
+) -> io::Result<Walk> {
     let stride = stepped(walk, lists, on);
     let answer = stride.answer;
     let after = stride.walk;
-    number(wide(codes::stepped(answer)));
+    number(rt, wide(codes::stepped(answer)))?;
     let array = after.bytes;
     let len = within(after.len, &array);
-    number(after.number);
-    ranked(families::rank(after.family, first, &array[..len]));
-    text(b",");
-    after
+    number(rt, after.number)?;
+    ranked(rt, families::rank(after.family, first, &array[..len]))?;
+    text(rt, b",")?;
+    Ok(after)
 }
 
 // The steps one by one.
-fn steps<'a, 'b>(begun: Walk, first: Lists<'a>, lists: Lists<'b>, on: &[bool]) -> Walk {
+fn steps<'a, 'b>(
+    rt: &impl Print,
+    begun: Walk,
+    first: Lists<'a>,
+    lists: Lists<'b>,
+    on: &[bool],
+) -> io::Result<Walk> {
     let mut walk = begun;
     let mut i = 0;
     while i < on.len() {
-        let after = one_step(walk, first, lists, on[i]);
+        let after = one_step(rt, walk, first, lists, on[i])?;
         walk = after;
         i += 1;
     }
-    walk
+    Ok(walk)
 }
 
 // The steps one by one, and again at once.
 fn gone<'a, 'b>(
+    rt: &impl Print,
     walk: Walk,
     first: Lists<'a>,
     lists: Lists<'b>,
     on: &[bool],
     answers: &mut [u8],
-) -> Walk {
-    text(b";");
-    let after = steps(walk, first, lists, on);
-    summed(after);
+) -> io::Result<Walk> {
+    text(rt, b";")?;
+    let after = steps(rt, walk, first, lists, on)?;
+    summed(rt, after)?;
     let left = walk.run(lists, on, answers);
-    text(b", run");
-    bytes(answers);
-    text(b",");
-    summed(left);
-    after
+    text(rt, b", run")?;
+    bytes(rt, answers)?;
+    text(rt, b",")?;
+    summed(rt, left)?;
+    Ok(after)
 }
 
 // Reads the steps from here to the leg's end, as far as there is room, and answers how many.
@@ -142,7 +164,7 @@ fn ways(leg: &[u8], start: usize, on: &mut [bool]) -> usize
     len
 }
 
-fn one_leg<'a>(walk: Walk, first: Lists<'a>, leg: &[u8]) -> Walk {
+fn one_leg<'a>(rt: &impl Print, walk: Walk, first: Lists<'a>, leg: &[u8]) -> io::Result<Walk> {
     let mut counts = [0u8; LONGEST_OBJECT];
     let lent = list(leg, 0, &mut counts);
     let lists = families::only_counts(&counts[..lent]);
@@ -151,24 +173,30 @@ fn one_leg<'a>(walk: Walk, first: Lists<'a>, leg: &[u8]) -> Walk {
     let many = ways(leg, room.end, &mut on);
     let mut answers = [UNWRITTEN; MOST];
     let a = within(room.value, &answers);
-    gone(walk, first, lists, &on[..many], &mut answers[..a])
+    gone(rt, walk, first, lists, &on[..many], &mut answers[..a])
 }
 
-fn legs<'a>(begun: Walk, first: Lists<'a>, line: &[u8], start: usize) -> Walk
+fn legs<'a>(
+    rt: &impl Print,
+    begun: Walk,
+    first: Lists<'a>,
+    line: &[u8],
+    start: usize,
+) -> io::Result<Walk>
     requires { start ≤ length line.now }
 {
     let mut walk = begun;
     let mut at = start;
     while at < line.len() {
         let end = until(line, at, b';');
-        let after = one_leg(walk, first, &line[at..end]);
+        let after = one_leg(rt, walk, first, &line[at..end])?;
         if line.len() - end < 2 {
-            return after;
+            return Ok(after);
         }
         walk = after;
         at = end + 2;
     }
-    walk
+    Ok(walk)
 }
 
 // The family that a section says.
@@ -186,7 +214,7 @@ fn family(line: &[u8], start: usize) -> Family {
 }
 
 // The walk that the head of a line says.
-fn begun<'a>(head: &[u8], first: Lists<'a>) -> Walk {
+fn begun<'a>(rt: &impl Print, head: &[u8], first: Lists<'a>) -> io::Result<Walk> {
     let start = behind(head, 0, b':');
     let f = family(head, start);
     let second = behind(head, start, b'/');
@@ -195,61 +223,60 @@ fn begun<'a>(head: &[u8], first: Lists<'a>) -> Walk {
     if wide_list(head, second, &mut said) == 2 {
         let mut array = [0u8; LONGEST_OBJECT];
         list(head, third, &mut array);
-        text(b" made up");
-        return Walk {
+        text(rt, b" made up")?;
+        return Ok(Walk {
             family: f,
             bytes: array,
             len: said[0],
             number: said[1],
-        };
+        });
     }
     let mut object = [0u8; MOST];
     let places = list(head, third, &mut object);
     let started = Walk::start(f, first, &object[..places]);
     let answer = started.answer;
-    text(b" RANK");
-    ranked(answer);
-    started.walk
+    text(rt, b" RANK")?;
+    ranked(rt, answer)?;
+    Ok(started.walk)
 }
 
-fn one_case(line: &[u8]) {
+fn one_case(rt: &impl Print, line: &[u8]) -> io::Result<()> {
     let colon = until(line, 0, b':');
     let end = until(line, colon, b';');
     let start = behind(line, colon, b';');
     let mut counts = [0u8; LONGEST_OBJECT];
     let lent = list(line, start, &mut counts);
     let first = families::only_counts(&counts[..lent]);
-    text(&line[..colon]);
-    text(b":");
-    kept(legs(begun(&line[..end], first), first, line, start));
-    end_line();
+    text(rt, &line[..colon])?;
+    text(rt, b":")?;
+    let walk = begun(rt, &line[..end], first)?;
+    kept(rt, legs(rt, walk, first, line, start)?)?;
+    end_line(rt)
 }
 
-fn cases(s: &[u8]) {
+fn cases(rt: &impl Print, s: &[u8]) -> io::Result<()> {
     let mut at = 0;
     while at < s.len() {
         let end = until(s, at, b'\n');
-        one_case(&s[at..end]);
+        one_case(rt, &s[at..end])?;
         if end == s.len() {
-            return;
+            return Ok(());
         }
         at = end + 1;
     }
+    Ok(())
 }
 
-fn file(i: usize) {
-    let mut name = io::buffer();
-    let length = os::arg(i, &mut name);
-    let mut input = io::large_buffer();
-    let read = test_support::read_file(&name[..length], &mut input);
-    cases(&input[..read]);
+fn file<R: Files + Print>(rt: &R, name: &str) -> io::Result<()> {
+    let mut input = [0u8; ROOM];
+    let read = test_support::read_file(rt, name, &mut input)?;
+    cases(rt, &input[..read])
 }
 
-fn main() {
-    let end = os::arg_count();
-    let mut i = 1;
-    while i < end {
-        file(i);
-        i += 1;
+fn main(rt: HostRuntime) -> io::Result<()> {
+    // The first is the program's own name.
+    for name in env::args(&rt)?.skip(1) {
+        file(&rt, name.as_str())?;
     }
+    Ok(())
 }
