@@ -16,9 +16,13 @@
 #![tactic(auto)]
 
 use families::{Family, Lists};
-use libc::STDOUT_FILENO;
 use std::num::{wrapping_add_u64, wrapping_sub_u64};
+use std::rt::Files;
+use std::{env, io};
 use test_support::{Read, behind, bytes, decimal, end_line, list, number, text, until, wide};
+
+// As much of a file as is read.
+const ROOM: usize = 65536;
 
 // More bytes than any object or list of counts has.
 const MOST: usize = 100;
@@ -53,62 +57,88 @@ fn signed(line: &[u8], start: usize) -> Read {
 }
 
 // How a jump's part of the line begins.
-fn heading(offset: u64) {
+fn heading(rt: &impl Print, offset: u64) -> io::Result<()> {
     if offset < MIDDLE {
-        text(b" -");
-        io::print_decimal(STDOUT_FILENO, MIDDLE - offset);
+        let below = MIDDLE - offset;
+        print!(rt; " -{below}")?;
     } else {
-        number(offset - MIDDLE);
+        number(rt, offset - MIDDLE)?;
     }
-    text(b":");
+    text(rt, b":")
 }
 
 // Jumps, and prints the answer by its code, where that isn't 20, written, and the bytes that are there then. Answers whether it was written.
-fn jumped<'a>(offset: u64, f: Family, lists: Lists<'a>, object: &mut [u8]) -> bool {
+fn jumped<'a>(
+    rt: &impl Print,
+    offset: u64,
+    f: Family,
+    lists: Lists<'a>,
+    object: &mut [u8],
+) -> io::Result<bool> {
     let code = jump::code(jump::jump(f, lists, distance(offset), object));
     match code {
         20 => {}
-        100 => text(b" END"),
+        100 => text(rt, b" END")?,
         _ => {
-            text(b" refused");
-            number(wide(code));
+            text(rt, b" refused")?;
+            number(rt, wide(code))?;
         }
     }
-    bytes(object);
-    code == 20
+    bytes(rt, object)?;
+    Ok(code == 20)
 }
 
 // One jump, and back from where it was written.
-fn there_and_back<'a>(offset: u64, f: Family, lists: Lists<'a>, object: &mut [u8]) {
-    heading(offset);
-    let written = jumped(offset, f, lists, object);
+fn there_and_back<'a>(
+    rt: &impl Print,
+    offset: u64,
+    f: Family,
+    lists: Lists<'a>,
+    object: &mut [u8],
+) -> io::Result<()> {
+    heading(rt, offset)?;
+    let written = jumped(rt, offset, f, lists, object)?;
     if !written {
-        return;
+        return Ok(());
     }
     // The smallest distance has no opposite.
     if offset == 0 {
-        return;
+        return Ok(());
     }
-    text(b", back");
-    jumped(wrapping_sub_u64(0, offset), f, lists, object);
+    text(rt, b", back")?;
+    jumped(rt, wrapping_sub_u64(0, offset), f, lists, object)?;
+    Ok(())
 }
 
 // The same from the object that a section says.
-fn one_jump<'a>(offset: u64, f: Family, lists: Lists<'a>, section: &[u8]) {
+fn one_jump<'a>(
+    rt: &impl Print,
+    offset: u64,
+    f: Family,
+    lists: Lists<'a>,
+    section: &[u8],
+) -> io::Result<()> {
     let mut object = [0u8; MOST];
     let places = list(section, 0, &mut object);
-    there_and_back(offset, f, lists, &mut object[..places]);
-    text(b";");
+    there_and_back(rt, offset, f, lists, &mut object[..places])?;
+    text(rt, b";")
 }
 
 // Every distance in turn; the last behind the loop, since no number follows the largest.
-fn jumps<'a>(first: u64, last: u64, f: Family, lists: Lists<'a>, section: &[u8]) {
+fn jumps<'a>(
+    rt: &impl Print,
+    first: u64,
+    last: u64,
+    f: Family,
+    lists: Lists<'a>,
+    section: &[u8],
+) -> io::Result<()> {
     let mut offset = first;
     while offset < last {
-        one_jump(offset, f, lists, section);
+        one_jump(rt, offset, f, lists, section)?;
         offset += 1;
     }
-    one_jump(last, f, lists, section);
+    one_jump(rt, last, f, lists, section)
 }
 
 // The family that a section says.
@@ -125,10 +155,10 @@ fn family(line: &[u8], start: usize) -> Family {
     }
 }
 
-fn one_case(line: &[u8]) {
+fn one_case(rt: &impl Print, line: &[u8]) -> io::Result<()> {
     let colon = until(line, 0, b':');
-    text(&line[..colon]);
-    text(b":");
+    text(rt, &line[..colon])?;
+    text(rt, b":")?;
     let start = behind(line, colon, b':');
     let f = family(line, start);
     let second = behind(line, start, b'/');
@@ -138,35 +168,33 @@ fn one_case(line: &[u8]) {
     let mut counts = [0u8; MOST];
     let lent = list(line, behind(line, third, b'/'), &mut counts);
     let lists = families::only_counts(&counts[..lent]);
-    jumps(first.value, last.value, f, lists, &line[third..]);
-    end_line();
+    jumps(rt, first.value, last.value, f, lists, &line[third..])?;
+    end_line(rt)
 }
 
-fn cases(s: &[u8]) {
+fn cases(rt: &impl Print, s: &[u8]) -> io::Result<()> {
     let mut at = 0;
     while at < s.len() {
         let end = until(s, at, b'\n');
-        one_case(&s[at..end]);
+        one_case(rt, &s[at..end])?;
         if end == s.len() {
-            return;
+            return Ok(());
         }
         at = end + 1;
     }
+    Ok(())
 }
 
-fn file(i: usize) {
-    let mut name = io::buffer();
-    let length = os::arg(i, &mut name);
-    let mut input = io::large_buffer();
-    let read = test_support::read_file(&name[..length], &mut input);
-    cases(&input[..read]);
+fn file<R: Files + Print>(rt: &R, name: &str) -> io::Result<()> {
+    let mut input = [0u8; ROOM];
+    let read = test_support::read_file(rt, name, &mut input)?;
+    cases(rt, &input[..read])
 }
 
-fn main() {
-    let end = os::arg_count();
-    let mut i = 1;
-    while i < end {
-        file(i);
-        i += 1;
+fn main(rt: HostRuntime) -> io::Result<()> {
+    // The first is the program's own name.
+    for name in env::args(&rt)?.skip(1) {
+        file(&rt, name.as_str())?;
     }
+    Ok(())
 }
