@@ -24,24 +24,32 @@ ghost use Rattle.io.specs.Counts.{IsPrefixLen};
 
 use checker::Checked;
 use families::{Family, Lists};
+use std::rt::Files;
+use std::{env, io};
 use test_support::{behind, decimal, end_line, list, number, text, until, wide, within};
+
+// As much of a file as is read, and the most bytes of a list.
+const ROOM: usize = 65536;
+
+// The most bytes in the middle of a list.
+const MIDDLE: usize = 4096;
 
 // More counts than any family has.
 const MOST: usize = 100;
 
-fn told(answer: Checked) {
+fn told(rt: &impl Print, answer: Checked) -> io::Result<()> {
     match answer {
-        Checked::Accepted => text(b" accepted"),
+        Checked::Accepted => text(rt, b" accepted")?,
         Checked::Wrong(place) => {
-            text(b" wrong");
-            number(place);
+            text(rt, b" wrong")?;
+            number(rt, place)?;
         }
         Checked::Refused(q) => {
-            text(b" refused");
-            number(wide(q));
+            text(rt, b" refused")?;
+            number(rt, wide(q))?;
         }
     }
-    text(b";");
+    text(rt, b";")
 }
 
 // Writes the bytes to the room, from that place on, as far as there is room, and answers where they end.
@@ -60,40 +68,49 @@ fn put(room: &mut [u8], start: usize, bytes: &[u8]) -> usize
 }
 
 // The list that a section says, with its bytes in the room.
-fn one_list<'a>(f: Family, lists: Lists<'a>, bytes: &[u8], section: &[u8], room: &mut [u8]) {
+fn one_list<'a>(
+    rt: &impl Print,
+    f: Family,
+    lists: Lists<'a>,
+    bytes: &[u8],
+    section: &[u8],
+    room: &mut [u8],
+) -> io::Result<()> {
     let entries = decimal(section, 0);
     let from = decimal(section, entries.end);
     let to = decimal(section, from.end);
-    let mut middle = io::buffer();
+    let mut middle = [0u8; MIDDLE];
     let changed = list(section, to.end, &mut middle);
     let head = within(from.value, bytes);
     let tail = within(to.value, bytes);
     let first = put(room, 0, &bytes[..head]);
     let second = put(room, first, &middle[..changed]);
     let end = put(room, second, &bytes[tail..]);
-    told(checker::check(f, lists, entries.value, &room[..end]));
+    told(rt, checker::check(f, lists, entries.value, &room[..end]))
 }
 
 // Every section from here on.
 fn each_list<'a>(
+    rt: &impl Print,
     f: Family,
     lists: Lists<'a>,
     bytes: &[u8],
     line: &[u8],
     start: usize,
     room: &mut [u8],
-)
+) -> io::Result<()>
     requires { start ≤ length line.now }
 {
     let mut at = start;
     while at < line.len() {
         let end = until(line, at, b'/');
-        one_list(f, lists, bytes, &line[at..end], room);
+        one_list(rt, f, lists, bytes, &line[at..end], room)?;
         if line.len() - end < 2 {
-            return;
+            return Ok(());
         }
         at = end + 2;
     }
+    Ok(())
 }
 
 // The family that a section says.
@@ -110,54 +127,53 @@ fn family(line: &[u8], start: usize) -> Family {
     }
 }
 
-fn one_case(line: &[u8]) {
+fn one_case(rt: &impl Print, line: &[u8]) -> io::Result<()> {
     let colon = until(line, 0, b':');
-    text(&line[..colon]);
-    text(b":");
+    text(rt, &line[..colon])?;
+    text(rt, b":")?;
     let first = behind(line, colon, b':');
     let second = behind(line, first, b'/');
     let third = behind(line, second, b'/');
     let mut counts = [0u8; MOST];
     let lent = list(line, second, &mut counts);
-    let mut bytes = io::large_buffer();
+    let mut bytes = [0u8; ROOM];
     let given = list(line, third, &mut bytes);
-    let mut room = io::large_buffer();
+    let mut room = [0u8; ROOM];
     each_list(
+        rt,
         family(line, first),
         families::only_counts(&counts[..lent]),
         &bytes[..given],
         line,
         behind(line, third, b'/'),
         &mut room,
-    );
-    end_line();
+    )?;
+    end_line(rt)
 }
 
-fn cases(s: &[u8]) {
+fn cases(rt: &impl Print, s: &[u8]) -> io::Result<()> {
     let mut at = 0;
     while at < s.len() {
         let end = until(s, at, b'\n');
-        one_case(&s[at..end]);
+        one_case(rt, &s[at..end])?;
         if end == s.len() {
-            return;
+            return Ok(());
         }
         at = end + 1;
     }
+    Ok(())
 }
 
-fn file(i: usize) {
-    let mut name = io::buffer();
-    let length = os::arg(i, &mut name);
-    let mut input = io::large_buffer();
-    let read = test_support::read_file(&name[..length], &mut input);
-    cases(&input[..read]);
+fn file<R: Files + Print>(rt: &R, name: &str) -> io::Result<()> {
+    let mut input = [0u8; ROOM];
+    let read = test_support::read_file(rt, name, &mut input)?;
+    cases(rt, &input[..read])
 }
 
-fn main() {
-    let end = os::arg_count();
-    let mut i = 1;
-    while i < end {
-        file(i);
-        i += 1;
+fn main(rt: HostRuntime) -> io::Result<()> {
+    // The first is the program's own name.
+    for name in env::args(&rt)?.skip(1) {
+        file(&rt, name.as_str())?;
     }
+    Ok(())
 }
