@@ -10,7 +10,7 @@ unfoldable pub descends : ℕ → Bytes → Bool
 descends f [] = true
 descends f (a ∷ x) = leb (get_or x 0 f) a && descends f x
 
--- "k parts, .. weakly descending, sum n" (SCOPE 1.5), each at least the floor f (SCOPE 1.e): `floor-keeps` says it part by part, with `at_least`
+-- "k parts, .. weakly descending, sum n" (SCOPE 1.5), each at least the floor f (SCOPE 1.e): `floor_keeps` says it part by part, with `at_least`
 unfoldable pub is_integer_partition : ℕ → ℕ → ℕ → Bytes → Bool
 is_integer_partition f n k x = eqb (length x) k && eqb (total x) n && descends f x
 

@@ -17,8 +17,8 @@ opens m k (b ∷ x) = leb 1 b && leb b (suc m) && opens (max m b) k x
 unfoldable pub is_set_partition : ℕ → ℕ → Bytes → Bool
 is_set_partition n k x = eqb (length x) n && opens 0 k x
 
--- "model i has key 0 if it is the smallest of its block, else its block number" (SCOPE 2.4; `key-of-smallest`, `key-of-other`;
--- each model is one of the two, `smallest-or-later`), with the blocks 1 to m used so far: a block above them is a new one
+-- "model i has key 0 if it is the smallest of its block, else its block number" (SCOPE 2.4; `key_of_smallest`, `key_of_other`;
+-- each model is one of the two, `smallest_or_later`), with the blocks 1 to m used so far: a block above them is a new one
 unfoldable pub keys : ℕ → Bytes → Bytes
 keys m [] = []
 keys m (b ∷ x) = cond (ltb m b) 0 b ∷ keys (max m b) x

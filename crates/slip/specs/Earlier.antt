@@ -1,5 +1,5 @@
 -- What the program printed when its numbers started at 0 and no slip had a fourth field: the definitions of that time, to the letter, where they have
--- changed since. Below them the words in which `archive`, `by_one` and `other-start` (proofs/Start.antt) compare. No contract goes by any of these.
+-- changed since. Below them the words in which `archive`, `by_one` and `other_start` (proofs/Start.antt) compare. No contract goes by any of these.
 -- Assumes nothing.
 use Rattle.std.specs.Prelude.{◌≡◌, ◌⊎◌, cond, List, [], ◌∷◌, ◌++◌, ℕ, suc, ◌+◌, ltb, eqb, length, get_or, take, drop}
 use Rattle.std.proofs.Math.Option.{Option, none, some}

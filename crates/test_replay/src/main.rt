@@ -169,7 +169,7 @@ fn cases(rt: &impl Print, s: &[u8]) -> io::Result<()> {
 
 fn file<R: Files + Print>(rt: &R, name: &str) -> io::Result<()> {
     let mut input = [0u8; ROOM];
-    let read = test_support::read_file(rt, name, &mut input)?;
+    let read = test_support::read_file(rt, name.as_bytes(), &mut input)?;
     cases(rt, &input[..read])
 }
 

@@ -51,7 +51,7 @@ fn one_slip<R: Files + Print>(rt: &R, name: &str, out: &mut [u8]) -> io::Result<
     requires { largest ≤ length out.old }
 {
     let mut input = room_to_read();
-    let read = read_file(rt, name, &mut input)?;
+    let read = read_file(rt, name.as_bytes(), &mut input)?;
     match slip::render(&input[..read], out) {
         Rendered::Text(end) => show(rt, name.as_bytes(), &out[..end]),
         Rendered::Short => text(rt, b"no room for the text\n"),

@@ -93,11 +93,15 @@ fn read_full<R: io::Read>(input: &mut R, out: &mut [u8]) -> io::Result<usize>
 }
 
 // Reads the file, as far as there is room, and answers how many bytes.
-pub fn read_file<R: Files + Print>(rt: &R, name: &str, out: &mut [u8]) -> io::Result<usize>
+pub fn read_file<R: Files + Print>(rt: &R, name: &[u8], out: &mut [u8]) -> io::Result<usize>
     ensures { IfOk result (λ n. IsPrefixLen n out.new) }
 {
-    let Ok(mut file) = fs::open(rt, name) else {
-        line(rt, name.as_bytes(), b"no such file")?;
+    let Ok(path) = str::from_utf8(name) else {
+        line(rt, name, b"no such file")?;
+        return Ok(0);
+    };
+    let Ok(mut file) = fs::open(rt, path) else {
+        line(rt, name, b"no such file")?;
         return Ok(0);
     };
     read_full(&mut file, out)

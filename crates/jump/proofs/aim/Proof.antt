@@ -24,18 +24,6 @@ returns-2 c =
     let fits = c.ranges in
     back_to a.rank (2 ^ 64) c.backward-less.result (sym (to_z-of_z w64 a.d fits.d) ∙ c.backward-less.ensures) fits.rank.fits (omega (arith, c.if-rank-less.false))
 
-returns-3 : tie.Need-returns-then-rank-more
-returns-3 c =
-    let a = c.args in
-    let fits = c.ranges in
-    behind_last a.rank (2 ^ 64) c.forward-more.result (sym (to_z-of_z w64 a.d fits.d) ∙ c.forward-more.ensures) (omega (arith, c.if-rank-more.true, fits.rank.fits))
-
-returns-4 : tie.Need-returns
-returns-4 c =
-    let a = c.args in
-    let fits = c.ranges in
-    on_to a.rank (2 ^ 64) c.forward-more.result (sym (to_z-of_z w64 a.d fits.d) ∙ c.forward-more.ensures) (omega (arith, c.if-rank-more.false, fits.rank.fits))
-
 pub aim_spec : {M : Type 1} → statement M
 aim_spec =
     tie.close
@@ -47,6 +35,12 @@ aim_spec =
     returns-2
     (λ c κs. not_below_zero (to_z w64 (of_z w64 c.args.d)) c.if-d-lt0.false)
     (λ c. search rules)
-    returns-3
+    (λ c.
+    let a = c.args in
+    let fits = c.ranges in
+    behind_last a.rank (2 ^ 64) c.forward-more.result (sym (to_z-of_z w64 a.d fits.d) ∙ c.forward-more.ensures) (omega (arith, fits.rank.fits)))
     (λ c. search rules)
-    returns-4)
+    (λ c.
+    let a = c.args in
+    let fits = c.ranges in
+    on_to a.rank (2 ^ 64) c.forward-more.result (sym (to_z-of_z w64 a.d fits.d) ∙ c.forward-more.ensures) (omega (arith, fits.rank.fits))))

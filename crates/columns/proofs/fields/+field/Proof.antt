@@ -3,6 +3,7 @@
 use mathlib.Core.Path.{sym, ◌∙◌, ap}
 use Prim.Native.Nat.{ℕ, ◌<◌}
 use lib.ListN.{length}
+use native.Mathlib.Omega.{arith}
 use borrow.Author.Rules.{rules}
 use borrow.Fn.Kinds.{In}
 use borrow.Fn.PlainCycle.{Measures, is, falls, and}
@@ -39,16 +40,10 @@ field_returns_2 t c =
 
 field_returns_3 : (t : ℕ) → field-lts.Need-returns-then-part-eq1 (claims t) (field_at t) field.Post
 unfolding value_as
-field_returns_3 t c = sym (field_lone c.args.part.now c.if-part-eq1.true c.if-part-eq48.true)
-
-field_returns_4 : (t : ℕ) → field-lts.Need-returns-then-part-eq48 (claims t) (field_at t) field.Post
-unfolding value_as
-field_returns_4 t c = sym (field_leading c.args.part.now c.if-part-eq1.false c.if-part-eq48.true)
-
-field_returns_5 : (t : ℕ) → field-lts.Need-returns (claims t) (field_at t) field.Post
-field_returns_5 t c = c.digits.ensures ∙ sym (field-number c.args.part.now c.if-part-eq0.false c.if-part-eq32.false c.if-part-eq48.false)
+field_returns_3 t c = sym (field_lone c.args.part.now c.if-part-eq1.true (omega arith))
 
 pub +field_spec : {M : Type 1} → statement M
+unfolding value_as
 +field_spec = close μ-field λ t. field-lts.spec
     (claims t)
     (field_at t)
@@ -62,6 +57,6 @@ pub +field_spec : {M : Type 1} → statement M
     (field_returns_2 t)
     (λ c. search rules)
     (field_returns_3 t)
-    (field_returns_4 t)
+    (λ c. sym (field_leading c.args.part.now c.if-part-eq1.false (omega arith)))
     (λ c κs. search rules)
-    (field_returns_5 t)
+    (λ c. c.digits.ensures ∙ sym (field-number c.args.part.now c.if-part-eq0.false c.if-part-eq32.false (λ e. omega arith)))
