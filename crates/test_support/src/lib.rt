@@ -2,7 +2,7 @@
 // digest of bytes. A line of cases is a label, a colon, and sections with strokes between them; one blank stands between any two words.
 #![tactic(auto)]
 
-ghost use Rattle.std.specs.Prelude.{◌≤◌, length, IfOk};
+ghost use Rattle.std.specs.Prelude.{◌≡◌, ◌≤◌, length, IfOk, OnErr};
 ghost use Rattle.io.specs.Counts.{IsPrefixLen};
 
 use std::rt::Files;
@@ -79,7 +79,8 @@ pub fn digest(start: u64, s: &[u8]) -> u64 {
 
 // Reads until the buffer is full or the input ends, and answers how many bytes.
 fn read_full<R: io::Read>(input: &mut R, out: &mut [u8]) -> io::Result<usize>
-    ensures { IfOk result (λ n. IsPrefixLen n out.new) }
+    ensures ok { IfOk result (λ n. IsPrefixLen n out.new) }
+    ensures err { OnErr result (length out.new ≡ length out.old) }
 {
     let mut done = 0;
     while done < out.len() {
@@ -92,9 +93,10 @@ fn read_full<R: io::Read>(input: &mut R, out: &mut [u8]) -> io::Result<usize>
     Ok(done)
 }
 
-// Reads the file, as far as there is room, and answers how many bytes.
+// Reads the file, as far as there is room, and answers how many bytes. A read that fails may have written some.
 pub fn read_file<R: Files + Print>(rt: &R, name: &[u8], out: &mut [u8]) -> io::Result<usize>
-    ensures { IfOk result (λ n. IsPrefixLen n out.new) }
+    ensures ok { IfOk result (λ n. IsPrefixLen n out.new) }
+    ensures err { OnErr result (length out.new ≡ length out.old) }
 {
     let Ok(path) = str::from_utf8(name) else {
         line(rt, name, b"no such file")?;
@@ -107,9 +109,10 @@ pub fn read_file<R: Files + Print>(rt: &R, name: &[u8], out: &mut [u8]) -> io::R
     read_full(&mut file, out)
 }
 
-// Reads standard input, as far as there is room, and answers how many bytes.
+// Reads standard input, as far as there is room, and answers how many bytes. A read that fails may have written some.
 pub fn read_input(rt: &impl Input, out: &mut [u8]) -> io::Result<usize>
-    ensures { IfOk result (λ n. IsPrefixLen n out.new) }
+    ensures ok { IfOk result (λ n. IsPrefixLen n out.new) }
+    ensures err { OnErr result (length out.new ≡ length out.old) }
 {
     read_full(&mut rt.reader(), out)
 }

@@ -2,7 +2,7 @@
 // Its exit status is always 0: a read or a write that fails is said on standard error, where nothing else is said.
 #![tactic(auto)]
 
-ghost use Rattle.std.specs.Prelude.{◌≡◌, ◌+◌, ◌≤◌, length, IfOk};
+ghost use Rattle.std.specs.Prelude.{◌≡◌, ◌+◌, ◌≤◌, length, IfOk, OnErr};
 ghost use Rattle.grammar.specs.Sizes.{longest_slip};
 ghost use Rattle.slip.specs.Sizes.{largest};
 
@@ -31,7 +31,8 @@ fn room_to_write() -> [u8; LARGEST]
 // Reads until the buffer is full or the input ends, and never past its end, which a terminal would ask for once more. Answers how many bytes
 // of input stand at the start of the buffer.
 fn read_input(rt: &impl Input, buf: &mut [u8]) -> io::Result<usize>
-    ensures { IfOk result (λ n. n ≤ length buf.new) }
+    ensures ok { IfOk result (λ n. n ≤ length buf.new) }
+    ensures err { OnErr result (length buf.new ≡ length buf.old) }
 {
     let mut input = rt.reader();
     let mut done = 0;
