@@ -21,7 +21,7 @@ use Rattle.families.specs.Table.{Lent, only_counts, plain_family}
 use Rattle.families.specs.Families.{is_object, listing, count_of}
 use Rattle.families.specs.Questions.{refusal}
 use Rattle.columns.specs.Columns.{newline, column, justified}
-use Rattle.columns.specs.Fields.{field_width, field}
+use Rattle.columns.specs.Fields.{field_width}
 use Rattle.columns.proofs.ColumnLaws.{length-column}
 use Rattle.columns.proofs.FieldLaws.{field-none, reads_back}
 use Rattle.grammar.specs.Grammar.{Slip, fields, fields_on, head_of, counts_on, second_line, handed_on, with_counts, slip_with, slip_of}

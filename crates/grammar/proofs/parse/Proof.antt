@@ -8,7 +8,7 @@ use native.Mathlib.Omega.{arith}
 use lib.ListN.{length, take, drop, length-take}
 use borrow.Author.Rules.{rules}
 use Rattle.listings.specs.Bytes.{Bytes}
-use Rattle.columns.specs.Fields.{field_width, field}
+use Rattle.columns.specs.Fields.{field_width}
 use Rattle.columns.specs.Inner.Writing.{value_as}
 use Rattle.columns.proofs.FieldLaws.{rest_is, field_small}
 use Rattle.grammar.specs.declared.Head.{Head}
