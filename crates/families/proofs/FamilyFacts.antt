@@ -138,3 +138,6 @@ module _ (f : Family) (b : Lent) where
     pub short : object_length f b ≤ longest_object
     unfolding object_length
     short = (row_laws f b).short bounded fitting
+
+-- for `#[tactic(using(..))]`: where the questions pass that are put to all the family is allowed, and where one doesn't it has no object
+pub ruleset admits = (allowed-asked, not-asked, not-allowed, none_allowed)

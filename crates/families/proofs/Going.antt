@@ -1,7 +1,6 @@
 -- Going through a family's listing by its calls: an object's length, where FIRST starts, what NEXT does at each place, what COUNT's answer tells.
 -- Assumes nothing.
 use mathlib.Core.Path.{◌≡◌, refl, sym, ◌∙◌, ap}
-use mathlib.Core.Logic.{⊎_elim}
 use mathlib.Core.Bool.{true}
 use mathlib.Core.Option.{Option, none, some, none-ne-some}
 use mathlib.Core.List.{List, [], ◌∷◌}
@@ -11,9 +10,10 @@ use native.Mathlib.Omega.{arith}
 use lib.Dec.{ltb}
 use lib.ListN.{length, get_elem?}
 use borrow.Author.Tests.{lt-ltb}
-use types.Run.{OneOf}
-use denote.Enum.Declared.{tag_of}
 use Rattle.basics.specs.Limits.{longest_object}
+use Rattle.std.specs.Prelude.{Result, Ok, Err}
+use Rattle.listings.specs.declared.Step.{Step}
+use Rattle.listings.specs.declared.Step.TheVariants.{Moved, End}
 use Rattle.listings.specs.Bytes.{Bytes}
 use Rattle.listings.specs.Places.{At, First}
 use Rattle.listings.specs.Calls.{COUNT, FIRST, NEXT, Answer, REFUSED, COUNTED, MEASURED, WRITTEN, STEPPED, Said, first_no, judged, onward, stepped, act}
@@ -22,14 +22,12 @@ use Rattle.listings.proofs.Standing.{get_elem_some}
 use Rattle.listings.proofs.Stepping.{place_here, stepped-some, stepped-none}
 use Rattle.listings.proofs.Walks.{passes}
 use Rattle.families.specs.declared.Family.{Family}
-use Rattle.families.specs.declared.Stepped.{Stepped}
-use Rattle.families.specs.declared.Stepped.TheVariants.{Moved, End, Refused}
+use Rattle.families.specs.declared.refusal.Refusal.{Refusal}
 use Rattle.families.specs.Answers.{stepped_as}
 use Rattle.families.specs.Table.{Lent}
 use Rattle.families.specs.Families.{asked_of_all, allowed, object_length, is_object, listing, count_of}
 use Rattle.families.specs.Questions.{asked, is_in, put, opening, closing_for, refusal}
 use Rattle.families.specs.Calls.{respond, measured, unless_refused}
-use Rattle.families.specs.contracts.Stepped.{the_type}
 use Rattle.families.proofs.QuestionLaws.{after_pass, first_list_passes}
 use Rattle.families.proofs.FamilyFacts.{listed, lawful, object-allowed, allowed-asked, asked-allowed, short}
 use Rattle.families.proofs.Verdicts.{opened, admitted, asks_enough, first_passes, next_passes}
@@ -48,10 +46,10 @@ refused_by none x n e = let a = ap (λ (s : Said). s.0) e in let z : ◌≡◌ {
 refused_by (some p) x n e = let a = ap (λ (s : Said). s.0) e in cc
 
 -- the code's answer to NEXT is another than that it stepped
-pub not_moved : (s : Stepped) → OneOf (1 ∷ 2 ∷ []) (tag_of the_type s) → stepped_as s ≡ STEPPED → ⊥
-not_moved Moved keys e = ⊎_elim (λ z. omega arith) (λ z. omega arith) keys
-not_moved End keys e = let z : ◌≡◌ {A = ℕ} 0 1 = cc in omega arith
-not_moved (Refused q) keys e = let z : ◌≡◌ {A = ℕ} 0 1 = cc in omega arith
+pub not_moved : (s : Result Step Refusal) → (s ≡ Ok Moved → ⊥) → stepped_as s ≡ STEPPED → ⊥
+not_moved (Ok Moved) other e = other refl
+not_moved (Ok End) other e = let z : ◌≡◌ {A = ℕ} 0 1 = cc in omega arith
+not_moved (Err q) other e = let z : ◌≡◌ {A = ℕ} 0 1 = cc in omega arith
 
 pub not_written : {q : ℕ} → REFUSED q ≡ WRITTEN → ⊥
 not_written e = let z : ◌≡◌ {A = ℕ} 0 1 = cc in omega arith

@@ -6,6 +6,7 @@ pub mod Dispatch
 pub mod CountAnswers
 pub mod Verdicts
 pub mod Responses
+pub mod Passing
 pub mod Going
 pub mod Refusals
 pub mod Answered

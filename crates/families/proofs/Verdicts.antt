@@ -4,6 +4,7 @@ use mathlib.Core.Path.{◌≡◌, refl, sym, ◌∙◌, ap}
 use mathlib.Core.Bool.{Bool, true, false, not, false≢true}
 use mathlib.Core.Option.{Option, none, some, some-injective, some-ne-none}
 use mathlib.Core.List.{[], ◌∷◌, ◌++◌}
+use Rattle.std.specs.Prelude.{Result}
 use Prim.Native.Nat.{ℕ, ◌<◌, ◌^◌}
 use native.Mathlib.Omega.{arith}
 use lib.Dec.{ltb}
@@ -11,23 +12,18 @@ use borrow.Author.Tests.{not-true, not-false, lt-ltb, ltb-true}
 use Rattle.listings.specs.Calls.{Call, FIRST, LAST, NEXT, PREVIOUS, RANK, UNRANK, Question, first_no}
 use Rattle.listings.proofs.Demand.{Asks}
 use Rattle.families.specs.declared.Family.{Family}
-use Rattle.families.specs.declared.questions.Verdict.{Verdict}
-use Rattle.families.specs.declared.table.Size.{Size}
+use Rattle.families.specs.declared.refusal.Refusal.{Refusal}
 use Rattle.families.specs.Table.{Lent}
 use Rattle.families.specs.Families.{always, asked_of_all, allowed, object_length, listing, count_of}
 use Rattle.families.specs.Questions.{asked, is_in, put, rank_given, opening, closing_for, refusal}
 use Rattle.families.specs.Answers.{verdict_as}
-use Rattle.families.specs.Inner.Sizes.{size_as}
 use Rattle.families.proofs.QuestionLaws.{after_pass, after_no, left_passes, right_passes, is-put, closing_passes}
 use Rattle.families.proofs.QuestionLaws as laws
 use Rattle.families.proofs.FamilyFacts.{allowed-asked}
 
 -- what the code's verdict says
-pub verdict : {v w : Verdict} {o : Option ℕ} → verdict_as v ≡ o → v ≡ w → o ≡ verdict_as w
+pub verdict : {v w : Result (Unit {0}) Refusal} {o : Option ℕ} → verdict_as v ≡ o → v ≡ w → o ≡ verdict_as w
 verdict e told = sym e ∙ ap verdict_as told
-
-pub size-told : {s w : Size} {o : Option ℕ} → size_as s ≡ o → s ≡ w → o ≡ size_as w
-size-told e told = sym e ∙ ap size_as told
 
 -- the answer of the code's test is no, or yes
 pub is_no : {r a : Bool} → r ≡ a → not r ≡ true → a ≡ false

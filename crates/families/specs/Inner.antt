@@ -1,3 +1,3 @@
 -- What private functions say to each other. No contract of a call that users reach cites it.
-pub mod Sizes
 pub mod Bounds
+pub mod Counts

@@ -3,25 +3,28 @@ ghost use Rattle.std.specs.Prelude.{◌≡◌};
 ghost use Rattle.families.specs.Answers.{written_as, stepped_as};
 ghost use Rattle.families.specs.Codes.{code_of};
 
-use crate::{Stepped, Written};
+use crate::Refusal;
+use listings::Step;
 
 // The code of an answer of FIRST, LAST and UNRANK.
-pub fn written(w: Written) -> u8
+#[tactic(auto, unfolding(crate::specs::Codes::code_of))]
+pub fn written(w: Result<(), Refusal>) -> u8
     ensures { result ≡ code_of (written_as w) }
 {
     match w {
-        Written::Done => 20,
-        Written::Refused(q) => q,
+        Ok(()) => 20,
+        Err(q) => u8::from(q),
     }
 }
 
 // The code of an answer of NEXT and PREVIOUS.
-pub fn stepped(s: Stepped) -> u8
+#[tactic(auto, unfolding(crate::specs::Codes::code_of))]
+pub fn stepped(s: Result<Step, Refusal>) -> u8
     ensures { result ≡ code_of (stepped_as s) }
 {
     match s {
-        Stepped::Moved => 21,
-        Stepped::End => 100,
-        Stepped::Refused(q) => q,
+        Ok(Step::Moved) => 21,
+        Ok(Step::End) => 100,
+        Err(q) => u8::from(q),
     }
 }

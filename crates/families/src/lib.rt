@@ -4,24 +4,23 @@
 
 ghost use Rattle.std.specs.Prelude.{◌≡◌, map, []};
 ghost use Rattle.listings.specs.Calls.{COUNT, FIRST, LAST, NEXT, PREVIOUS, RANK, UNRANK, Said, first_no};
-ghost use Rattle.listings.specs.Steps.{step_as};
 ghost use Rattle.families.specs.Table.{lent, only_counts, plain_family};
 ghost use Rattle.families.specs.Families.{is_object, count_of};
 ghost use Rattle.families.specs.Questions.{rank_refusal};
 ghost use Rattle.families.specs.Questions.{opening as opening_of};
 ghost use Rattle.families.specs.Calls.{respond, measured};
-ghost use Rattle.families.specs.Inner.Sizes.{size_as};
 ghost use Rattle.families.specs.Answers.{call_as, verdict_as, counted_as, ranked_as, written_as, stepped_as, length_as};
 
 pub mod codes;
 mod kinds;
 mod questions;
+mod refusal;
 mod table;
 
 use counting::Count;
 use listings::Step;
-pub use questions::{Call, Verdict, ask};
-use table::Size;
+pub use questions::{Call, ask};
+pub use refusal::Refusal;
 
 // "A family is passed by value: its kind, n and k, each an unsigned 64-bit number." "A family gains a floor", which every part of kind 5 has at least.
 // "A family says edition 1 or 2", by which kind 4 is ordered.
@@ -37,42 +36,6 @@ pub struct Family {
 
 // Everything lent beside a family, by place: the letter counts of kind 2.
 pub type Lists<'a> = [&'a [u8]; 1];
-
-// What COUNT answers: the number of objects, or the number of the question missed.
-#[derive(Clone, Copy)]
-pub enum Counted {
-    Objects(u64),
-    Refused(u8),
-}
-
-// What RANK answers.
-#[derive(Clone, Copy)]
-pub enum Ranked {
-    Rank(u64),
-    Refused(u8),
-}
-
-// What FIRST, LAST and UNRANK answer.
-#[derive(Clone, Copy)]
-pub enum Written {
-    Done,
-    Refused(u8),
-}
-
-// What NEXT and PREVIOUS answer.
-#[derive(Clone, Copy)]
-pub enum Stepped {
-    Moved,
-    End,
-    Refused(u8),
-}
-
-// How long the family's objects are, or the number of the question missed.
-#[derive(Clone, Copy)]
-pub enum Length {
-    Bytes(u64),
-    Refused(u8),
-}
 
 // A family of which no more is said than this: floor and edition, and later fields, have their defaults.
 pub fn plain_family(kind: u64, n: u64, k: u64) -> Family
@@ -102,135 +65,104 @@ pub fn no_lists<'a>(any: &'a [u8]) -> Lists<'a>
 }
 
 // The length that a lent object buffer must have: the table's, where the questions pass that are put to all.
-pub fn object_length<'a>(f: Family, lists: Lists<'a>) -> Length
+#[tactic(auto, using(crate::proofs::FamilyFacts::admits), unfolding(crate::specs::Calls::measured, crate::specs::Calls::unless_refused))]
+pub fn object_length<'a>(f: Family, lists: Lists<'a>) -> Result<u64, Refusal>
     ensures { length_as result ≡ measured f (lent (map (λ x. x.now) lists.entry)) }
 {
-    let Verdict::No(q) = questions::asked_of_all(f, lists) else {
-        return Length::Bytes(table::object_length(f, lists));
-    };
-    Length::Refused(q)
+    questions::asked_of_all(f, lists)?;
+    Ok(table::object_length(f, lists))
 }
 
 // The questions about the family alone, as they are put to a call.
-pub fn opening<'a>(c: Call, f: Family, lists: Lists<'a>) -> Verdict
+pub fn opening<'a>(c: Call, f: Family, lists: Lists<'a>) -> Result<(), Refusal>
     ensures { verdict_as result ≡ first_no (opening_of (call_as c) f (lent (map (λ x. x.now) lists.entry))) }
 {
     questions::opening(c, f, lists)
 }
 
 // Do the bytes hold an object of the family?
+#[tactic(auto, using(crate::proofs::FamilyFacts::admits))]
 pub fn is_object<'a>(f: Family, lists: Lists<'a>, object: &[u8]) -> bool
     ensures { result ≡ is_object f (lent (map (λ x. x.now) lists.entry)) object.now }
 {
-    let Verdict::No(_) = questions::asked_of_all(f, lists) else {
-        return kinds::is_object(f, lists, object);
-    };
-    false
+    questions::asked_of_all(f, lists).is_ok() && kinds::is_object(f, lists, object)
 }
 
 // Questions 5 and 8 for a number, whatever the call.
-pub fn rank_below<'a>(rank: u64, f: Family, lists: Lists<'a>) -> Verdict
+#[tactic(auto, using(crate::proofs::FamilyFacts::admits), unfolding(listings::specs::Calls::first_no, crate::specs::Families::count_of, crate::specs::Questions::rank_refusal))]
+pub fn rank_below<'a>(rank: u64, f: Family, lists: Lists<'a>) -> Result<(), Refusal>
     ensures { verdict_as result ≡ rank_refusal rank (count_of f (lent (map (λ x. x.now) lists.entry))) }
 {
-    let Verdict::No(_) = questions::asked_of_all(f, lists) else {
-        return size_verdict(table::rank_size(rank, f, lists));
-    };
-    Verdict::No(8)
+    let is_below = questions::asked_of_all(f, lists).is_ok()
+        && table::is_below_count(rank, f, lists)?;
+    if is_below { Ok(()) } else { Err(Refusal::Rank) }
 }
 
 // COUNT: how many objects the family has.
-pub fn count<'a>(f: Family, lists: Lists<'a>) -> Counted
+#[tactic(auto, using(crate::proofs::FamilyFacts::admits, crate::proofs::Passing::count_refused_early, crate::proofs::Responses::count_said, crate::proofs::Responses::count_refused), unfolding(counting::specs::Answers::fits))]
+pub fn count<'a>(f: Family, lists: Lists<'a>) -> Result<u64, Refusal>
     ensures { ◌≡◌ {A = Said} (counted_as result, []) (respond COUNT f (lent (map (λ x. x.now) lists.entry)) []) }
 {
-    let Verdict::No(q) = questions::asked_of_all(f, lists) else {
-        let Count::Exactly(objects) = table::answer(f, lists) else {
-            return Counted::Refused(5);
-        };
-        return Counted::Objects(objects);
-    };
-    Counted::Refused(q)
+    questions::asked_of_all(f, lists)?;
+    match table::answer(f, lists) {
+        Count::Exactly(objects) => Ok(objects),
+        _ => Err(Refusal::TooMany),
+    }
 }
 
 // FIRST: writes the earliest object.
-pub fn first<'a>(f: Family, lists: Lists<'a>, object: &mut [u8]) -> Written
+#[tactic(auto, using(crate::proofs::Verdicts::admitted, crate::proofs::Passing::first_some, crate::proofs::Passing::first_long, crate::proofs::Responses::refused, crate::proofs::Responses::writes_first))]
+pub fn first<'a>(f: Family, lists: Lists<'a>, object: &mut [u8]) -> Result<(), Refusal>
     ensures { ◌≡◌ {A = Said} (written_as result, object.new) (respond FIRST f (lent (map (λ x. x.now) lists.entry)) object.old) }
 {
-    let Verdict::No(q) = questions::ask(Call::First, f, lists, object) else {
-        kinds::first(f, lists, object);
-        return Written::Done;
-    };
-    Written::Refused(q)
+    questions::ask(Call::First, f, lists, object)?;
+    kinds::first(f, lists, object);
+    Ok(())
 }
 
 // LAST: writes the latest object.
-pub fn last<'a>(f: Family, lists: Lists<'a>, object: &mut [u8]) -> Written
+#[tactic(auto, using(crate::proofs::Verdicts::admitted, crate::proofs::Passing::last_some, crate::proofs::Passing::last_long, crate::proofs::Responses::refused, crate::proofs::Responses::writes_last))]
+pub fn last<'a>(f: Family, lists: Lists<'a>, object: &mut [u8]) -> Result<(), Refusal>
     ensures { ◌≡◌ {A = Said} (written_as result, object.new) (respond LAST f (lent (map (λ x. x.now) lists.entry)) object.old) }
 {
-    let Verdict::No(q) = questions::ask(Call::Last, f, lists, object) else {
-        kinds::last(f, lists, object);
-        return Written::Done;
-    };
-    Written::Refused(q)
+    questions::ask(Call::Last, f, lists, object)?;
+    kinds::last(f, lists, object);
+    Ok(())
 }
 
 // NEXT: replaces the object by the one just after it, or answers END and changes nothing.
-pub fn next<'a>(f: Family, lists: Lists<'a>, object: &mut [u8]) -> Stepped
+#[tactic(auto, using(crate::proofs::Passing::next_holds, crate::proofs::Responses::refused, crate::proofs::Responses::acts))]
+pub fn next<'a>(f: Family, lists: Lists<'a>, object: &mut [u8]) -> Result<Step, Refusal>
     ensures { ◌≡◌ {A = Said} (stepped_as result, object.new) (respond NEXT f (lent (map (λ x. x.now) lists.entry)) object.old) }
 {
-    let Verdict::No(q) = questions::ask(Call::Next, f, lists, object) else {
-        return step_answer(kinds::next(f, lists, object));
-    };
-    Stepped::Refused(q)
+    questions::ask(Call::Next, f, lists, object)?;
+    Ok(kinds::next(f, lists, object))
 }
 
 // PREVIOUS: replaces the object by the one just before it, or answers END and changes nothing.
-pub fn previous<'a>(f: Family, lists: Lists<'a>, object: &mut [u8]) -> Stepped
+#[tactic(auto, using(crate::proofs::Passing::previous_holds, crate::proofs::Responses::refused, crate::proofs::Responses::acts))]
+pub fn previous<'a>(f: Family, lists: Lists<'a>, object: &mut [u8]) -> Result<Step, Refusal>
     ensures { ◌≡◌ {A = Said} (stepped_as result, object.new) (respond PREVIOUS f (lent (map (λ x. x.now) lists.entry)) object.old) }
 {
-    let Verdict::No(q) = questions::ask(Call::Previous, f, lists, object) else {
-        return step_answer(kinds::previous(f, lists, object));
-    };
-    Stepped::Refused(q)
+    questions::ask(Call::Previous, f, lists, object)?;
+    Ok(kinds::previous(f, lists, object))
 }
 
 // RANK: how many objects come before this one.
-pub fn rank<'a>(f: Family, lists: Lists<'a>, object: &[u8]) -> Ranked
+#[tactic(auto, using(crate::proofs::Passing::rank_holds, crate::proofs::Passing::rank_fits, crate::proofs::Passing::rank_said, crate::proofs::Responses::refused))]
+pub fn rank<'a>(f: Family, lists: Lists<'a>, object: &[u8]) -> Result<u64, Refusal>
     ensures { ◌≡◌ {A = Said} (ranked_as result, object.now) (respond RANK f (lent (map (λ x. x.now) lists.entry)) object.now) }
 {
-    let Verdict::No(q) = questions::ask(Call::Rank, f, lists, object) else {
-        return Ranked::Rank(kinds::rank(f, lists, object));
-    };
-    Ranked::Refused(q)
+    questions::ask(Call::Rank, f, lists, object)?;
+    Ok(kinds::rank(f, lists, object))
 }
 
 // UNRANK: writes the object of a rank.
-pub fn unrank<'a>(rank: u64, f: Family, lists: Lists<'a>, object: &mut [u8]) -> Written
+#[tactic(auto, using(crate::proofs::Verdicts::admitted, crate::proofs::Passing::unrank_fits, crate::proofs::Passing::unrank_long, crate::proofs::Passing::unrank_below, crate::proofs::Responses::refused, crate::proofs::Responses::writes_ranked))]
+pub fn unrank<'a>(rank: u64, f: Family, lists: Lists<'a>, object: &mut [u8]) -> Result<(), Refusal>
     ensures { ◌≡◌ {A = Said} (written_as result, object.new) (respond (UNRANK rank) f (lent (map (λ x. x.now) lists.entry)) object.old) }
 {
-    let Verdict::No(q) = questions::ask(Call::Unrank(rank), f, lists, object) else {
-        kinds::unrank(rank, f, lists, object);
-        return Written::Done;
-    };
-    Written::Refused(q)
-}
-
-// A step's answer as the call's.
-fn step_answer(s: Step) -> Stepped
-    ensures { stepped_as result ≡ step_as s }
-{
-    match s {
-        Step::Moved => Stepped::Moved,
-        Step::End => Stepped::End,
-    }
-}
-
-// How a rank stands to the count, as the first of questions 5 and 8 that is missed.
-fn size_verdict(s: Size) -> Verdict
-    ensures { verdict_as result ≡ size_as s }
-{
-    match s {
-        Size::Below => Verdict::Pass,
-        Size::Beyond => Verdict::No(8),
-        Size::TooLarge => Verdict::No(5),
-    }
+    questions::ask(Call::Unrank(rank), f, lists, object)?;
+    kinds::unrank(rank, f, lists, object);
+    Ok(())
 }

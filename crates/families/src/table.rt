@@ -1,29 +1,17 @@
 // The table of families in code: bounds, lists, lengths and counts, by kind.
-ghost use Rattle.std.specs.Prelude.{◌≡◌, true, ◌&&◌, ◌||◌, map, ℕ, ◌+◌, min, leb, ltb, eqb};
-ghost use Rattle.basics.specs.Limits.{places};
-ghost use Rattle.basics.specs.Sums.{total};
-ghost use Rattle.numbers.specs.Numbers.{stirling_of};
+ghost use Rattle.std.specs.Prelude.{◌≡◌, true, ◌&&◌, ◌||◌, map, ◌^◌, leb, ltb, eqb};
 ghost use Rattle.counting.specs.Answers.{fits as fits_of};
 ghost use Rattle.families.specs.Table.{lent};
 ghost use Rattle.families.specs.Families.{row, is_kind, in_table, floor_fits, edition_fits, lists_fit, allowed, object_length, count_of};
-ghost use Rattle.families.specs.Questions.{rank_refusal};
-ghost use Rattle.families.specs.Inner.Sizes.{size_as};
 ghost use Rattle.families.specs.Inner.Bounds.{most_n, most_k};
+ghost use Rattle.families.specs.Inner.Counts.{below_count};
 
-use crate::{Family, Lists};
+use crate::{Family, Lists, Refusal};
 use basics::{BRANCHES, FLOORS, PLACES, sum_to_limit};
 use counting::Count;
 
 // The last kind of the table.
 const LAST_KIND: u64 = 7;
-
-// How a rank stands to a family's count: below it, not below it, or the count is not below 2^64.
-#[derive(Clone, Copy)]
-pub enum Size {
-    Below,
-    Beyond,
-    TooLarge,
-}
 
 // Question 1.
 pub fn is_kind(f: Family) -> bool
@@ -195,46 +183,35 @@ pub fn answer<'a>(f: Family, lists: Lists<'a>) -> Count
     count(f, lists)
 }
 
-// Questions 5 and 8 for a number and a count that is known, or known to be too large.
-fn against(rank: u64, count: Count) -> Size
-    ensures { (v : ℕ) → count ≡ fits_of v → size_as result ≡ rank_refusal rank v }
-{
-    let Count::Exactly(v) = count else {
-        return Size::TooLarge;
-    };
-    if rank < v {
-        return Size::Below;
-    }
-    Size::Beyond
-}
-
-// For rank 0, that is for RANK, the place in the triangle tells: to work a Stirling number out would take as long as the rank.
-fn against_stirling(rank: u64, n: u64, k: u64) -> Size
-    requires { (leb n places && leb k places) ≡ true }
-    ensures { size_as result ≡ rank_refusal rank (stirling_of n k) }
-{
-    if 0 < rank {
-        return against(rank, counting::stirling(n, k));
-    }
-    if !stirlings::stirling_fits(n, k) {
-        return Size::TooLarge;
-    }
-    if shared_out(n, k) {
-        return Size::Below;
-    }
-    Size::Beyond
-}
-
-// Questions 5 and 8 for a number.
-pub fn rank_size<'a>(rank: u64, f: Family, lists: Lists<'a>) -> Size
+// Question 5. For a Stirling number its place in the triangle tells: to work the number out would take as long as a rank.
+#[tactic(auto, unfolding(counting::specs::Answers::fits))]
+pub fn count_fits<'a>(f: Family, lists: Lists<'a>) -> bool
     requires { allowed f (lent (map (λ x. x.now) lists)) ≡ true }
-    ensures { size_as result ≡ rank_refusal rank (count_of f (lent (map (λ x. x.now) lists.entry))) }
+    ensures { result ≡ ltb (count_of f (lent (map (λ x. x.now) lists.entry))) (2 ^ 64) }
 {
-    let kind = f.kind;
-    let n = f.n;
-    let k = f.k;
-    if kind == 4 {
-        return against_stirling(rank, n, k);
+    if f.kind == 4 {
+        return stirlings::stirling_fits(f.n, f.k);
     }
-    against(rank, count(f, lists))
+    match count(f, lists) {
+        Count::Exactly(_) => true,
+        _ => false,
+    }
+}
+
+// Question 8, unless question 5 refuses. Rank 0 is below the count where the family has an object.
+#[tactic(auto, using(crate::proofs::FamilyFacts::has_object_lem), unfolding(counting::specs::Answers::fits))]
+pub fn is_below_count<'a>(rank: u64, f: Family, lists: Lists<'a>) -> Result<bool, Refusal>
+    requires { allowed f (lent (map (λ x. x.now) lists)) ≡ true }
+    ensures { result ≡ below_count rank (count_of f (lent (map (λ x. x.now) lists.entry))) }
+{
+    if rank != 0 {
+        let Count::Exactly(count) = count(f, lists) else {
+            return Err(Refusal::TooMany);
+        };
+        return Ok(rank < count);
+    }
+    if !count_fits(f, lists) {
+        return Err(Refusal::TooMany);
+    }
+    Ok(has_object(f, lists))
 }
