@@ -1,5 +1,4 @@
 -- What a jump rests on, and the theorems about jumps.
-pub mod Signs
 pub mod Targets
 pub mod Landing
 pub mod JumpLaws

@@ -2,7 +2,7 @@
 -- Assumes nothing.
 use mathlib.Core.Path.{◌≡◌, refl, sym, ◌∙◌, ap}
 use mathlib.Core.Logic.{◌↔◌}
-use mathlib.Core.Bool.{Bool, true, false, cond}
+use mathlib.Core.Bool.{Bool, true, false, cond, false≢true}
 use mathlib.Core.Option.{Option, none, some, some-injective, some-ne-none}
 use Prim.Native.Nat.{ℕ, suc, ◌+◌, ◌-◌, ◌≤◌, ◌<◌}
 use native.Mathlib.Omega.{arith}
@@ -10,7 +10,11 @@ use native.Mathlib.Decide.{dec_lt}
 use lib.Dec.{ltb}
 use lib.IntN.{ℤ, pos, negsuc, ◌+ℤ◌, +ℤ_assoc, +ℤ_idr}
 use borrow.Author.Tests.{lt-ltb, le-ltb, ltb-true, ltb-false}
+use lib.Signed.{lt_z}
+use Rattle.std.specs.Prelude.{Some, None, SomeIff, unsigned_abs}
+use Rattle.std.specs.Prelude.{Option as Found}
 use Rattle.jump.specs.Jumps.{rank_in, target}
+use Rattle.jump.specs.Inner.Goals.{goal_as}
 
 -- at both ends of three objects, by computation
 
@@ -95,7 +99,7 @@ module _ (r n : ℕ) where
         | no h ↦ rw (le-ltb m r (omega arith), lt-ltb r (suc m) (omega arith))
       ]
 
--- the same as the code finds it
+-- the same where a rank is known to be there, or not to be
 
 module _ (r n : ℕ) {d : ℤ} (m : ℕ) where
   pub before-first : d ≡ negsuc m → r < n → r ≤ m → none ≡ target r n d
@@ -111,6 +115,19 @@ module _ (r n : ℕ) {d : ℤ} (m : ℕ) where
 
   pub on_to : d ≡ pos m → r + m < n → some (r + m) ≡ target r n d
   on_to e h = rw (e, target_on r n m, lt-ltb (r + m) n h)
+
+-- the same as the code finds it, by a difference or a sum that may not be there
+
+module _ (r n : ℕ) where
+  pub aimed_back : (d : ℤ) (o : Found ℕ) → lt_z d (pos 0) ≡ true → r < n → SomeIff o (unsigned_abs d ≤ r) (r - unsigned_abs d) → goal_as o ≡ target r n d
+  aimed_back (pos m) o s h e = absurd (omega (arith, ltb-true m 0 s))
+  aimed_back (negsuc m) None s h e = rw (target-back r n m h, le-ltb m r (omega arith))
+  aimed_back (negsuc m) (Some p) s h e = rw (target-back r n m h, lt-ltb m r (omega (arith, e.0)), e.1)
+
+  pub aimed_on : (d : ℤ) (o : Found ℕ) → lt_z d (pos 0) ≡ false → SomeIff o (r + unsigned_abs d < n) (r + unsigned_abs d) → goal_as o ≡ target r n d
+  aimed_on (pos m) None s e = rw (target_on r n m, le-ltb (r + m) n (omega arith))
+  aimed_on (pos m) (Some p) s e = rw (target_on r n m, lt-ltb (r + m) n e.0, e.1)
+  aimed_on (negsuc m) o s e = absurd (false≢true (sym s))
 
 -- a target among m objects, and among n
 

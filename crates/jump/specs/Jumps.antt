@@ -1,10 +1,12 @@
 -- Jump by a signed distance (SCOPE 13): where it leads, and what it answers and leaves, for any family, lists, distance and bytes.
 -- Assumes nothing.
-use Rattle.std.specs.Prelude.{cond, List, ℕ, ltb, ℤ, pos, negsuc, ◌+ℤ◌, length, get_or}
+use Rattle.std.specs.Prelude.{Result, Ok, Err, cond, List, ℕ, ltb, ℤ, pos, negsuc, ◌+ℤ◌, length, get_or}
 use Rattle.std.proofs.Math.Option.{Option, none, some}
 use Rattle.listings.specs.Bytes.{Bytes}
 use Rattle.listings.specs.Calls.{RANK, Answer, REFUSED, COUNTED, RANKED, MEASURED, WRITTEN, STEPPED, END, Said, judged}
 use Rattle.families.specs.declared.Family.{Family}
+use Rattle.families.specs.declared.refusal.Refusal.{Refusal}
+use Rattle.families.specs.Answers.{number_of}
 use Rattle.families.specs.Table.{Lent}
 use Rattle.families.specs.Families.{is_object, listing, count_of, rank_of}
 use Rattle.families.specs.Questions.{refusal}
@@ -31,10 +33,10 @@ jump f b d x =
     (jumped x (listing f b) (target (rank_of f b x) (count_of f b) d))
 
 -- a jump's answers (SCOPE 13.1, 13.2)
-abbrev pub jumped_as : Jumped → Answer
-jumped_as Jumped.Written = WRITTEN
-jumped_as Jumped.End = END
-jumped_as (Jumped.Refused q) = REFUSED q
+abbrev pub jumped_as : Result Jumped Refusal → Answer
+jumped_as (Ok Jumped.Written) = WRITTEN
+jumped_as (Ok Jumped.End) = END
+jumped_as (Err q) = REFUSED (number_of q)
 
 -- what a step answers and leaves, in the words of a jump: the neighbour "is written" (SCOPE 13.4)
 unfoldable pub as_jump : Said → Said

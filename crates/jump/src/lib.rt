@@ -2,9 +2,8 @@
 // distance and bytes are answered, and nothing overflows, not for the smallest d and not for ranks up to 2^64 - 1.
 #![tactic(auto)]
 
-ghost use Rattle.std.specs.Prelude.{◌≡◌, true, false, map, ◌^◌, pos, negsuc, length};
+ghost use Rattle.std.specs.Prelude.{◌≡◌, true, map, ◌^◌, length};
 ghost use Rattle.std.proofs.Math.Option.{none};
-ghost use Rattle.std.specs.Int.Signed.{non_neg};
 ghost use Rattle.listings.specs.Calls.{RANK, Said};
 ghost use Rattle.families.specs.Table.{lent};
 ghost use Rattle.families.specs.Families.{is_object, rank_of};
@@ -14,91 +13,60 @@ ghost use Rattle.jump.specs.Jumps.{target, jumped_as};
 ghost use Rattle.jump.specs.Jumps.{jump as jump_of};
 ghost use Rattle.jump.specs.Inner.Goals.{goal_as};
 
-use families::{Family, Lists, Ranked, Written};
+use families::{Family, Lists, Refusal};
 
-// What a jump answers.
-#[derive(Clone, Copy)]
+// What a jump answers that isn't refused.
+#[derive(Clone, Copy, Debug, PartialEq, Eq)]
 pub enum Jumped {
     Written,
     End,
-    Refused(u8),
 }
 
-// A rank below 2^64 to go to, or none.
-#[derive(Clone, Copy)]
-enum Goal {
-    At(u64),
-    Off,
-}
-
-// How far d goes on.
-fn forward(d: i64) -> u64
-    requires { non_neg d ≡ true }
-    ensures { d ≡ pos result }
-{
-    d as u64
-}
-
-// One less than d goes back: the smallest d has no negative of its own.
-fn backward(d: i64) -> u64
-    requires { non_neg d ≡ false }
-    ensures { d ≡ negsuc result }
-{
-    (-(d + 1)) as u64
-}
-
-// The rank d places on or back from a rank.
-fn aim(rank: u64, d: i64) -> Goal
+// The rank d places on or back from a rank, if it is one below 2^64.
+fn aim(rank: u64, d: i64) -> Option<u64>
     ensures { goal_as result ≡ target rank (2 ^ 64) d }
 {
+    let distance = d.unsigned_abs();
     if d < 0 {
-        let less = backward(d);
-        if rank <= less {
-            return Goal::Off;
-        }
-        return Goal::At(rank - 1 - less);
+        rank.checked_sub(distance)
+    } else {
+        rank.checked_add(distance)
     }
-    let more = forward(d);
-    if u64::MAX - rank < more {
-        return Goal::Off;
-    }
-    Goal::At(rank + more)
 }
 
+#[tactic(auto, using(crate::proofs::Landing::off, crate::proofs::Landing::ended, crate::proofs::Landing::landed))]
 // From an object whose rank RANK has told. UNRANK puts the one question that is left: is the new rank below the count?
 fn jump_from<'a>(rank: u64, f: Family, lists: Lists<'a>, d: i64, object: &mut [u8]) -> Jumped
     requires object_value { refusal RANK f (lent (map (λ x. x.now) lists)) (length object.old) (is_object f (lent (map (λ x. x.now) lists)) object.old) ≡ none }
     requires object_value_2 { rank_of f (lent (map (λ x. x.now) lists)) object.old ≡ rank }
-    ensures { ◌≡◌ {A = Said} (jumped_as result, object.new) (jump_of f (lent (map (λ x. x.now) lists.entry)) d object.old) }
+    ensures { ◌≡◌ {A = Said} (jumped_as (Ok result), object.new) (jump_of f (lent (map (λ x. x.now) lists.entry)) d object.old) }
 {
-    let Goal::At(to) = aim(rank, d) else {
+    let Some(to) = aim(rank, d) else {
         return Jumped::End;
     };
-    let answer = families::unrank(to, f, lists, object);
-    match answer {
-        Written::Done => Jumped::Written,
-        Written::Refused(_) => Jumped::End,
+    match families::unrank(to, f, lists, object) {
+        Ok(()) => Jumped::Written,
+        Err(_) => Jumped::End,
     }
 }
 
+#[tactic(auto, using(crate::proofs::Landing::refused_so, families::proofs::Answered::rank_told))]
 // A jump: writes the object d places on or back, or answers END and changes nothing.
-pub fn jump<'a>(f: Family, lists: Lists<'a>, d: i64, object: &mut [u8]) -> Jumped
+pub fn jump<'a>(f: Family, lists: Lists<'a>, d: i64, object: &mut [u8]) -> Result<Jumped, Refusal>
     ensures { ◌≡◌ {A = Said} (jumped_as result, object.new) (jump_of f (lent (map (λ x. x.now) lists.entry)) d object.old) }
 {
-    let answer = families::rank(f, lists, object);
-    match answer {
-        Ranked::Rank(rank) => jump_from(rank, f, lists, d, object),
-        Ranked::Refused(q) => Jumped::Refused(q),
-    }
+    let rank = families::rank(f, lists, object)?;
+    Ok(jump_from(rank, f, lists, d, object))
 }
 
+#[tactic(auto, unfolding(families::specs::Codes::code_of))]
 // The code of a jump's answer, as `families` codes those of its calls.
-pub fn code(j: Jumped) -> u8
+pub fn code(j: Result<Jumped, Refusal>) -> u8
     ensures { result ≡ code_of (jumped_as j) }
 {
     match j {
-        Jumped::Written => 20,
-        Jumped::End => 100,
-        Jumped::Refused(q) => q,
+        Ok(Jumped::Written) => 20,
+        Ok(Jumped::End) => 100,
+        Err(refusal) => u8::from(refusal),
     }
 }
