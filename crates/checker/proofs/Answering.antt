@@ -20,7 +20,10 @@ use Rattle.families.proofs.QuestionLaws.{past, stop, none_left, after_pass, afte
 use Rattle.families.proofs.Verdicts.{first_passes}
 use Rattle.families.proofs.Going.{length-known, object-here, long-here}
 use Rattle.families.proofs.Answered.{missed_where_refused, opens_for}
-use Rattle.checker.specs.declared.Checked.{Checked}
+use Rattle.std.specs.Prelude.{Ok, Err}
+use Rattle.families.specs.declared.refusal.Refusal.{Refusal}
+use Rattle.families.specs.Answers.{number_of}
+use Rattle.checker.specs.declared.CheckError.{CheckError}
 use Rattle.checker.specs.Checking.{cut_into, entries_of, check_refusal, Says}
 use Rattle.checker.specs.Inner.Differences.{first_wrong}
 use Rattle.checker.proofs.FirstWrong.{none_wrong, some_wrong}
@@ -46,28 +49,28 @@ module _ (f : Family) (b : Lent) (m size : ℕ) where
 
 module _ (f : Family) (b : Lent) (m : ℕ) (s : Bytes) where
   -- a question about the family that is missed is missed by the check
-  refused_so : {q : ℕ} → first_no (opening FIRST f b) ≡ some q → Says f b m s (Checked.Refused q)
+  refused_so : (q : Refusal) → first_no (opening FIRST f b) ≡ some (number_of q) → Says f b m s (Err (CheckError.Refused q))
   unfolding Says
-  refused_so e = family_missed f b m (length s) e
+  refused_so q e = family_missed f b m (length s) e
 
   -- the length of an object was refused
-  pub no_length : {q : ℕ} → REFUSED q ≡ measured f b → Says f b m s (Checked.Refused q)
+  pub no_length : (q : Refusal) → REFUSED (number_of q) ≡ measured f b → Says f b m s (Err (CheckError.Refused q))
   unfolding measured opening
-  no_length e = refused_so (after_no (asked_of_all f b) (put FIRST 4 (ltb 0 (count_of f b)) ∷ []) (measured_refused (first_no (asked_of_all f b)) (object_length f b) e))
+  no_length q e = refused_so q (after_no (asked_of_all f b) (put FIRST 4 (ltb 0 (count_of f b)) ∷ []) (measured_refused (first_no (asked_of_all f b)) (object_length f b) e))
 
   -- FIRST was refused, on a buffer of an object's length
-  pub no_first : (x : Bytes) {q : ℕ} {y : Bytes} → MEASURED (length x) ≡ measured f b → ◌≡◌ {A = Said} (REFUSED q, y) (respond FIRST f b x) → Says f b m s (Checked.Refused q)
+  pub no_first : (x : Bytes) (q : Refusal) {y : Bytes} → MEASURED (length x) ≡ measured f b → ◌≡◌ {A = Said} (REFUSED (number_of q), y) (respond FIRST f b x) → Says f b m s (Err (CheckError.Refused q))
   unfolding refusal
-  no_first x {q} told e = go (first_no (opening FIRST f b)) refl
+  no_first x q told e = go (first_no (opening FIRST f b)) refl
     where
-      missed : refusal FIRST f b (length x) (is_object f b x) ≡ some q
+      missed : refusal FIRST f b (length x) (is_object f b x) ≡ some (number_of q)
       missed = (missed_where_refused f b FIRST x (sym e)).first
 
-      go : (o : Option ℕ) → first_no (opening FIRST f b) ≡ o → Says f b m s (Checked.Refused q)
-      go none pass = absurd (some-ne-none q (sym missed ∙ first_passes f b (length x) (is_object f b x) pass (length-known f b told).long))
+      go : (o : Option ℕ) → first_no (opening FIRST f b) ≡ o → Says f b m s (Err (CheckError.Refused q))
+      go none pass = absurd (some-ne-none (number_of q) (sym missed ∙ first_passes f b (length x) (is_object f b x) pass (length-known f b told).long))
       go (some p) first =
           let all = after_no (opening FIRST f b) (closing_for FIRST (count_of f b) (object_length f b) (length x) (is_object f b x)) first in
-          refused_so (first ∙ sym all ∙ missed)
+          refused_so q (first ∙ sym all ∙ missed)
 
   -- the first object stands in the buffer, so the questions about the family have passed
   module _ {x : Bytes} (first : First (listing f b) x) where
@@ -76,7 +79,7 @@ module _ (f : Family) (b : Lent) (m : ℕ) (s : Bytes) where
         family-passed f b m (length s) (opens_for f b x (object-here f b 0 first))
         ∙ ap (λ (long : ℕ). first_no (twelve m long (length s))) (sym (long-here f b 0 first))
 
-    pub no_product : eqb (length s) (m * length x) ≡ false → Says f b m s (Checked.Refused 12)
+    pub no_product : eqb (length s) (m * length x) ≡ false → Says f b m s (Err CheckError.Entries)
     unfolding Says
     no_product e = asks_twelve ∙ stop (always 12 (eqb (length s) (m * length x))) [] e
 
@@ -91,10 +94,10 @@ module _ (f : Family) (b : Lent) (m : ℕ) (s : Bytes) where
 
       -- what the loop has found
 
-      pub accepted : {o : Option ℕ} → o ≡ none → o ≡ first_wrong (listing f b) (cut_into m (length x) s) → Says f b m s Checked.Accepted
+      pub accepted : {o : Option ℕ} {u : Unit {0}} → o ≡ none → o ≡ first_wrong (listing f b) (cut_into m (length x) s) → Says f b m s (Ok u)
       unfolding Says
       accepted found e = (passes, sym same_entries ∙ none_wrong (listing f b) (cut_into m (length x) s) (sym e ∙ found))
 
-      pub wrong : {o : Option ℕ} {p : ℕ} → o ≡ some p → o ≡ first_wrong (listing f b) (cut_into m (length x) s) → Says f b m s (Checked.Wrong p)
+      pub wrong : {o : Option ℕ} {p : ℕ} → o ≡ some p → o ≡ first_wrong (listing f b) (cut_into m (length x) s) → Says f b m s (Err (CheckError.Wrong p))
       unfolding Says
       wrong {p = p} found e = (passes, rw (← same_entries) (some_wrong (listing f b) (cut_into m (length x) s) p (sym e ∙ found)).wrong)

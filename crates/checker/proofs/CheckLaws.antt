@@ -30,8 +30,10 @@ use Rattle.families.proofs.Going.{object-here, long-here}
 use Rattle.families.proofs.Refusals.{Numbered, refusal-numbered}
 use Rattle.families.proofs.Answered.{first-answers, opens_for}
 use Rattle.families.proofs.Demand.{first_on, unheard}
-use Rattle.checker.specs.declared.Checked.{Checked}
-use Rattle.checker.specs.Checking.{cut_into, entries_of, check_refusal, WrongAt, Says}
+use Rattle.std.specs.Prelude.{Ok, Err}
+use Rattle.families.specs.Answers.{number_of}
+use Rattle.checker.specs.declared.CheckError.{CheckError}
+use Rattle.checker.specs.Checking.{cut_into, entries_of, check_refusal, WrongAt, Checked, refused_by, Says}
 use Rattle.checker.proofs.Entries.{many, joined-long, cut-joined}
 use Rattle.checker.proofs.Answering.{family_missed, family-passed}
 
@@ -71,40 +73,33 @@ means_wrong l es p (beyond {y = y} h there) e = some-ne-none y (sym there ∙ e 
 -- a list that is too short: some place is wrong, and the entries are fewer than the objects
 pub record TooShort (f : Family) (b : Lent) (m : ℕ) (s : Bytes) (r : Checked) : Type 0 where
   pub place : ℕ
-  pub wrong : r ≡ Checked.Wrong place
+  pub wrong : r ≡ Err (CheckError.Wrong place)
   pub fewer : length (entries_of f b m s) < count_of f b
 
 module _ (f : Family) (b : Lent) where
   -- every answer but the place is fixed
 
   module _ (m : ℕ) (s : Bytes) {r : Checked} (says : Says f b m s r) where
-    pub accepts_exactly : (r ≡ Checked.Accepted) ↔ ((check_refusal f b m (length s) ≡ none) × (entries_of f b m s ≡ listing f b))
+    pub accepts_exactly : (r ≡ Ok tt) ↔ ((check_refusal f b m (length s) ≡ none) × (entries_of f b m s ≡ listing f b))
     unfolding Says WrongAt
     accepts_exactly = ((λ e. subst (Says f b m s) e says), go r says)
       where
-        go : (r : Checked) → Says f b m s r → (check_refusal f b m (length s) ≡ none) × (entries_of f b m s ≡ listing f b) → r ≡ Checked.Accepted
-        go Checked.Accepted t h = refl
-        go (Checked.Wrong p) t h = absurd (t.1 (ap (λ (l : List Bytes). get_elem? l p) h.1))
-        go (Checked.Refused q) t h = absurd (some-ne-none q (sym t ∙ h.0))
-
-    pub refuses_exactly : (q : ℕ) → (r ≡ Checked.Refused q) ↔ (check_refusal f b m (length s) ≡ some q)
-    unfolding Says
-    refuses_exactly q = ((λ e. subst (Says f b m s) e says), go r says)
-      where
-        go : (r : Checked) → Says f b m s r → check_refusal f b m (length s) ≡ some q → r ≡ Checked.Refused q
-        go Checked.Accepted t h = absurd (none-ne-some q (sym t.0 ∙ h))
-        go (Checked.Wrong p) t h = absurd (none-ne-some q (sym t.0 ∙ h))
-        go (Checked.Refused p) t h = ap {B = Checked} (λ (n : ℕ). Checked.Refused n) (some-injective p q (sym t ∙ h))
+        go : (r : Checked) → Says f b m s r → (check_refusal f b m (length s) ≡ none) × (entries_of f b m s ≡ listing f b) → r ≡ Ok tt
+        go (Ok tt) t h = refl
+        go (Err (CheckError.Wrong p)) t h = absurd (t.1 (ap (λ (l : List Bytes). get_elem? l p) h.1))
+        go (Err CheckError.Entries) t h = absurd (some-ne-none 12 (sym t ∙ h.0))
+        go (Err (CheckError.Refused q)) t h = absurd (some-ne-none (number_of q) (sym t ∙ h.0))
 
     -- and a place is given in all other cases, which is wrong
-    pub wrong_otherwise : check_refusal f b m (length s) ≡ none → (entries_of f b m s ≡ listing f b → ⊥) → (p : ℕ) × ((r ≡ Checked.Wrong p) × Fault (listing f b) (entries_of f b m s) p)
+    pub wrong_otherwise : check_refusal f b m (length s) ≡ none → (entries_of f b m s ≡ listing f b → ⊥) → (p : ℕ) × ((r ≡ Err (CheckError.Wrong p)) × Fault (listing f b) (entries_of f b m s) p)
     unfolding Says
     wrong_otherwise pass differ = go r says
       where
-        go : (r : Checked) → Says f b m s r → (p : ℕ) × ((r ≡ Checked.Wrong p) × Fault (listing f b) (entries_of f b m s) p)
-        go Checked.Accepted t = absurd (differ t.1)
-        go (Checked.Wrong p) t = (p, (refl, wrong_means (listing f b) (entries_of f b m s) p t.1))
-        go (Checked.Refused q) t = absurd (some-ne-none q (sym t ∙ pass))
+        go : (r : Checked) → Says f b m s r → (p : ℕ) × ((r ≡ Err (CheckError.Wrong p)) × Fault (listing f b) (entries_of f b m s) p)
+        go (Ok u) t = absurd (differ t.1)
+        go (Err (CheckError.Wrong p)) t = (p, (refl, wrong_means (listing f b) (entries_of f b m s) p t.1))
+        go (Err CheckError.Entries) t = absurd (some-ne-none 12 (sym t ∙ pass))
+        go (Err (CheckError.Refused q)) t = absurd (some-ne-none (number_of q) (sym t ∙ pass))
 
     -- "when the count exceeds 64 bits, where such a list can only be too short"
     pub only_too_short : m < 2 ^ 64 → 2 ^ 64 ≤ count_of f b → check_refusal f b m (length s) ≡ none → TooShort f b m s r
@@ -113,6 +108,24 @@ module _ (f : Family) (b : Lent) where
         let fewer : length (entries_of f b m s) < count_of f b = omega (arith, many m (object_length f b) s) in
         let (p, (e, w)) = wrong_otherwise pass (λ e. let same = ap length e in omega arith) in
         record { place = p; wrong = e; fewer = fewer }
+
+  -- it says a number just where that is the first no
+  module _ (m : ℕ) (s : Bytes) (r : Checked) (says : Says f b m s r) where
+    pub refuses_exactly : (q : ℕ) → (refused_by r ≡ some q) ↔ (check_refusal f b m (length s) ≡ some q)
+    unfolding Says
+    refuses_exactly q = (asked r says, go r says)
+      where
+        asked : (r : Checked) → Says f b m s r → refused_by r ≡ some q → check_refusal f b m (length s) ≡ some q
+        asked (Ok u) t h = absurd (none-ne-some q h)
+        asked (Err (CheckError.Wrong p)) t h = absurd (none-ne-some q h)
+        asked (Err CheckError.Entries) t h = t ∙ h
+        asked (Err (CheckError.Refused p)) t h = t ∙ h
+
+        go : (r : Checked) → Says f b m s r → check_refusal f b m (length s) ≡ some q → refused_by r ≡ some q
+        go (Ok u) t h = absurd (none-ne-some q (sym t.0 ∙ h))
+        go (Err (CheckError.Wrong p)) t h = absurd (none-ne-some q (sym t.0 ∙ h))
+        go (Err CheckError.Entries) t h = sym t ∙ h
+        go (Err (CheckError.Refused p)) t h = sym t ∙ h
 
   -- what a check is refused by is the number of a question that calls are put, or 12
   pub check_numbered : (m size : ℕ) {q : ℕ} → check_refusal f b m size ≡ some q → Numbered q ⊎ (q ≡ 12)
@@ -126,7 +139,7 @@ module _ (f : Family) (b : Lent) where
           inl (refusal-numbered FIRST f b 0 false (after_no (opening FIRST f b) (closing_for FIRST (count_of f b) (object_length f b) 0 false) first ∙ same))
 
   -- of an object that is the empty string, one entry is accepted, and no other number
-  pub empty_objects_lem : listing f b ≡ [] ∷ [] → (m : ℕ) {r : Checked} → Says f b m [] r → (r ≡ Checked.Accepted) ↔ (m ≡ 1)
+  pub empty_objects_lem : listing f b ≡ [] ∷ [] → (m : ℕ) {r : Checked} → Says f b m [] r → (r ≡ Ok tt) ↔ (m ≡ 1)
   unfolding entries_of cut_into
   empty_objects_lem alone m says = (
     (λ e. sym (many m (object_length f b) []) ∙ ap length (((accepts_exactly m [] says).0 e).1 ∙ alone)),
@@ -165,7 +178,7 @@ module _ (f : Family) (b : Lent) where
         ]
 
     -- what FIRST and NEXT until END give, one behind the other, is accepted
-    pub own_list : (m : ℕ) (l : List Bytes) → until_end (run (FIRST ∷ replicate m NEXT) f b s) ≡ some l → {r : Checked} → Says f b (length l) (flatten l) r → r ≡ Checked.Accepted
+    pub own_list : (m : ℕ) (l : List Bytes) → until_end (run (FIRST ∷ replicate m NEXT) f b s) ≡ some l → {r : Checked} → Says f b (length l) (flatten l) r → r ≡ Ok tt
     unfolding entries_of
     own_list m l given says =
         let all = whole m l given in

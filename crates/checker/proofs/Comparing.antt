@@ -1,13 +1,15 @@
 -- The loop of a check: an object of the listing beside the entries, all of which agree before its place. Each way out is the first wrong place, or none.
 -- Assumes nothing.
 use mathlib.Core.Path.{◌≡◌, refl, sym, ◌∙◌, ap}
-use mathlib.Core.Bool.{true, false}
+use mathlib.Core.Bool.{true, false, cond}
 use mathlib.Core.Option.{Option, none, some, some-injective, none-ne-some, some-ne-none}
 use mathlib.Core.List.{List}
-use Prim.Native.Nat.{ℕ, suc, ◌*◌, ◌<◌}
+use Prim.Native.Nat.{ℕ, suc, ◌*◌, ◌≤◌, ◌<◌}
 use native.Mathlib.Decide.{dec_lt}
 use native.Mathlib.Omega.{arith}
+use lib.Dec.{eqb}
 use lib.ListN.{length, take, drop}
+use borrow.Author.Tests.{eq-eqb, ne_eqb}
 use Rattle.listings.specs.Bytes.{Bytes, same}
 use Rattle.listings.specs.Places.{At, First}
 use Rattle.listings.proofs.SameBytes.{same-eq, same_ne}
@@ -68,6 +70,13 @@ module _ (l : List Bytes) (m long : ℕ) (s : Bytes) where
   unfolding WrongAt
   longer {p} agree all inside =
       first_at l entries p agree (λ e. some-ne-none (entry p) (sym (entry_at m long s p inside) ∙ e ∙ get_elem_none l p (omega arith)))
+
+  pub ended : {p : ℕ} → AgreeTo l entries p → p ≡ length l → p ≤ m → cond (eqb p m) none (some p) ≡ first_wrong l entries
+  ended {p} agree all inside =
+      elim (dec_lt p m) [
+        | yes more ↦ rw (ne_eqb p m (λ e. omega arith)) (sym (longer agree all more))
+        | no end ↦ let last : p ≡ m = omega arith in rw (eq-eqb p m last) (sym (whole agree all last))
+      ]
 
   -- behind the last entry there is an object
   pub shorter : {p : ℕ} {x : Bytes} → Standing p x → p ≡ m → first_wrong l entries ≡ some p

@@ -2,7 +2,8 @@
 // entries and bytes are answered. It reads the entries once, beside one object that NEXT takes along, and counts nothing but entries.
 #![tactic(auto)]
 
-ghost use Rattle.std.specs.Prelude.{◌≡◌, map, ◌*◌, length};
+ghost use Rattle.std.specs.Prelude.{◌≡◌, cond, eqb, map, ◌*◌, length};
+ghost use Rattle.std.proofs.Math.Option.{none, some};
 ghost use Rattle.listings.specs.Calls.{MEASURED};
 ghost use Rattle.listings.specs.Places.{First};
 ghost use Rattle.families.specs.Table.{lent};
@@ -10,57 +11,68 @@ ghost use Rattle.families.specs.Families.{listing};
 ghost use Rattle.families.specs.Calls.{measured};
 ghost use Rattle.checker.specs.Checking.{cut_into, Says};
 ghost use Rattle.checker.specs.Inner.Differences.{first_wrong, difference_as};
+ghost use Rattle.checker.specs.declared.CheckError.TheVariants.{Refused};
 
 use basics::LONGEST_OBJECT;
-use families::{Family, Length, Lists, Stepped, Written};
+use families::{Family, Lists, Refusal};
+use listings::Step;
 
-// What a check answers: the entries are the listing, or this place is wrong, from 0, or the number of the question missed.
-#[derive(Clone, Copy)]
-pub enum Checked {
-    Accepted,
+// Why a check doesn't accept the entries.
+#[derive(Clone, Copy, Debug, PartialEq, Eq)]
+pub enum CheckError {
+    // A place that is wrong, from 0.
     Wrong(u64),
-    Refused(u8),
+    // "Is the byte length exactly the entries times the object length?" is answered by no. It is question 12, which a check alone puts.
+    Entries,
+    // A question about the family is missed.
+    Refused(Refusal),
 }
 
-// The first place at which the entries differ from the listing, if there is one.
-#[derive(Clone, Copy)]
-enum Difference {
-    None,
-    At(u64),
+impl From<Refusal> for CheckError {
+    ghost from_gives = { λ q e. e ≡ Refused q };
+
+    fn from(refusal: Refusal) -> CheckError {
+        CheckError::Refused(refusal)
+    }
+}
+
+// Behind the last object the entries have to end: the place is wrong if there is one more.
+fn behind_last(place: u64, entries: u64) -> Option<u64>
+    ensures { difference_as result ≡ cond (eqb place entries) none (some place) }
+{
+    (place != entries).then_some(place)
 }
 
 // The entries one after the other against the listing, whose first object stands in the buffer. NEXT goes on from entry to entry; where it ends, the
-// entries have to.
+// entries have to. The first place at which they differ, if there is one.
 fn compare<'a>(
     f: Family,
     lists: Lists<'a>,
     entries: u64,
     bytes: &[u8],
     object: &mut [u8],
-) -> Difference
+) -> Option<u64>
     requires first { First (listing f (lent (map (λ x. x.now) lists))) object.old }
     requires bytes_len { length bytes.now ≡ entries * length object.old }
     ensures { difference_as result ≡ first_wrong (listing f (lent (map (λ x. x.now) lists.entry))) (cut_into entries (length object.old) bytes.now) }
 {
-    let mut place: u64 = 0;
-    let mut at = 0;
-    while place < entries {
-        let end = at + object.len();
-        if !listings::same(&bytes[at..end], object) {
-            return Difference::At(place);
+    let mut rest = bytes;
+    for place in 0..entries {
+        let (entry, behind) = rest.split_at(object.len());
+        if !listings::same(entry, object) {
+            return Some(place);
         }
-        at = end;
-        place += 1;
-        let Stepped::Moved = families::next(f, lists, object) else {
-            if place == entries {
-                return Difference::None;
-            }
-            return Difference::At(place);
-        };
+        rest = behind;
+        match families::next(f, lists, object) {
+            Ok(Step::Moved) => {}
+            Ok(Step::End) => return behind_last(place + 1, entries),
+            Err(_) => return behind_last(place + 1, entries),
+        }
     }
-    Difference::At(place)
+    Some(entries)
 }
 
+#[tactic(auto, using(crate::proofs::Answering::no_product, crate::proofs::Answering::accepted, crate::proofs::Answering::wrong))]
 // From the first object on: question 12, and then the entries.
 fn check_from<'a>(
     f: Family,
@@ -68,20 +80,20 @@ fn check_from<'a>(
     entries: u64,
     bytes: &[u8],
     object: &mut [u8],
-) -> Checked
+) -> Result<(), CheckError>
     requires { First (listing f (lent (map (λ x. x.now) lists))) object.old }
     ensures { Says f (lent (map (λ x. x.now) lists.entry)) entries bytes.now result }
 {
     if !basics::is_product(bytes.len(), entries as usize, object.len()) {
-        return Checked::Refused(12);
+        return Err(CheckError::Entries);
     }
-    let found = compare(f, lists, entries, bytes, object);
-    match found {
-        Difference::None => Checked::Accepted,
-        Difference::At(wrong) => Checked::Wrong(wrong),
+    match compare(f, lists, entries, bytes, object) {
+        None => Ok(()),
+        Some(place) => Err(CheckError::Wrong(place)),
     }
 }
 
+#[tactic(auto, using(crate::proofs::Answering::no_first, families::proofs::Going::starts))]
 // With a buffer of an object's length, into which FIRST writes; what FIRST is refused by then is question 4.
 fn check_in<'a>(
     f: Family,
@@ -89,34 +101,34 @@ fn check_in<'a>(
     entries: u64,
     bytes: &[u8],
     object: &mut [u8],
-) -> Checked
+) -> Result<(), CheckError>
     requires { MEASURED (length object.old) ≡ measured f (lent (map (λ x. x.now) lists)) }
     ensures { Says f (lent (map (λ x. x.now) lists.entry)) entries bytes.now result }
 {
-    let answer = families::first(f, lists, object);
-    match answer {
-        Written::Done => check_from(f, lists, entries, bytes, object),
-        Written::Refused(q) => Checked::Refused(q),
-    }
+    families::first(f, lists, object)?;
+    check_from(f, lists, entries, bytes, object)
 }
 
 // With objects of a length that is known: the room for one of them is all that a check needs.
-fn check_long<'a>(long: u64, f: Family, lists: Lists<'a>, entries: u64, bytes: &[u8]) -> Checked
+fn check_long<'a>(
+    long: u64,
+    f: Family,
+    lists: Lists<'a>,
+    entries: u64,
+    bytes: &[u8],
+) -> Result<(), CheckError>
     requires { MEASURED long ≡ measured f (lent (map (λ x. x.now) lists)) }
     ensures { Says f (lent (map (λ x. x.now) lists.entry)) entries bytes.now result }
 {
     let mut space = [0u8; LONGEST_OBJECT];
-    let len = long as usize;
-    check_in(f, lists, entries, bytes, &mut space[..len])
+    check_in(f, lists, entries, bytes, &mut space[..long as usize])
 }
 
-// A check of so many entries, which lie in the bytes one behind the other.
-pub fn check<'a>(f: Family, lists: Lists<'a>, entries: u64, bytes: &[u8]) -> Checked
+#[tactic(auto, using(crate::proofs::Answering::no_length))]
+// A check of so many entries, which lie in the bytes one behind the other: accepted where they are the family's listing.
+pub fn check<'a>(f: Family, lists: Lists<'a>, entries: u64, bytes: &[u8]) -> Result<(), CheckError>
     ensures { Says f (lent (map (λ x. x.now) lists.entry)) entries bytes.now result }
 {
-    let answer = families::object_length(f, lists);
-    match answer {
-        Length::Bytes(long) => check_long(long, f, lists, entries, bytes),
-        Length::Refused(q) => Checked::Refused(q),
-    }
+    let long = families::object_length(f, lists)?;
+    check_long(long, f, lists, entries, bytes)
 }
