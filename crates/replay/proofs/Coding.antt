@@ -1,10 +1,10 @@
 -- A code is read by its number, and a list of codes by its first.
 -- Assumes nothing.
 use mathlib.Core.Path.{◌≡◌, refl, ◌∙◌, ap}
-use mathlib.Core.Bool.{false}
+use mathlib.Core.Bool.{true, false}
 use mathlib.Core.List.{List}
 use Prim.Native.Nat.{ℕ, zero, suc, ◌≤◌, ◌<◌}
-use lib.ListN.{length, get_or, drop}
+use lib.ListN.{length, get_or, drop, drop_of_length-le}
 use lib.Seq.{drop-cons}
 use borrow.Author.Tests.{le-leb, lt-leb}
 use Rattle.listings.specs.Bytes.{Bytes}
@@ -44,3 +44,8 @@ module _ (cs : List ℕ) (i : ℕ) (inside : i < length cs) where
   pub known_on : 1 ≤ get_or cs i 0 → get_or cs i 0 ≤ 5 → known (drop i cs) ≡ known (drop (suc i) cs)
   unfolding known
   known_on l h = rw (drop-cons cs i 0 inside, le-leb 1 (get_or cs i 0) l, le-leb (get_or cs i 0) 5 h)
+
+-- and past the last there is none
+pub known_end : (cs : List ℕ) (i : ℕ) → length cs ≤ i → known (drop i cs) ≡ true
+unfolding known
+known_end cs i h = rw (drop_of_length-le cs {i = i} h)

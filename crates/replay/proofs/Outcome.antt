@@ -1,7 +1,7 @@
 -- What a replay answers: misfit, where a buffer or a code does not fit, and else the whole of the marker's run.
 -- Assumes nothing.
 use mathlib.Core.Path.{◌≡◌, refl, ap}
-use mathlib.Core.Bool.{true}
+use mathlib.Core.Bool.{true, false}
 use mathlib.Core.List.{List}
 use mathlib.Core.Logic.{⊎_elim}
 use Prim.Native.Nat.{ℕ, ◌*◌}
@@ -12,7 +12,6 @@ use Rattle.families.specs.declared.Family.{Family}
 use Rattle.families.specs.Table.{Lent}
 use Rattle.families.specs.Calls.{run}
 use Rattle.families.proofs.Demand.{calls_are_the_marker}
-use Rattle.replay.specs.declared.Replayed.TheVariants.{Ran, Misfit}
 use Rattle.replay.specs.Codes.{calls_of, known}
 use Rattle.replay.specs.Record.{Buffers, buffers_fit, kept, Outcome, outcome}
 
@@ -36,10 +35,10 @@ module _ (calls ranks : List ℕ) (f : Family) (b : Lent) (s : Buffers) where
   unfolding buffers_fit
   fit p = rw (p.codes, eq-eqb _ _ p.ranked, eq-eqb _ _ p.answered, eq-eqb _ _ p.room)
 
-  pub refuses : (Fit → ⊥) → ◌≡◌ {A = Outcome} (Misfit, s) (outcome calls ranks f b s)
+  pub refuses : (Fit → ⊥) → ◌≡◌ {A = Outcome} (false, s) (outcome calls ranks f b s)
   unfolding outcome
   refuses no-fit = ⊎_elim (λ yes. absurd (no-fit (read yes))) (λ no. rw no refl) (true_or_false (buffers_fit calls ranks s))
 
-  pub runs : {after : Buffers} → Fit → after ≡ kept s.object (run (calls_of calls ranks) f b s.object) → ◌≡◌ {A = Outcome} (Ran, after) (outcome calls ranks f b s)
+  pub runs : {after : Buffers} → Fit → after ≡ kept s.object (run (calls_of calls ranks) f b s.object) → ◌≡◌ {A = Outcome} (true, after) (outcome calls ranks f b s)
   unfolding outcome
-  runs p e = rw (fit p) (ap (λ (x : Buffers). (Ran, x)) (rw (calls_are_the_marker f b s.object (calls_of calls ranks)) at e))
+  runs p e = rw (fit p) (ap (λ (x : Buffers). (true, x)) (rw (calls_are_the_marker f b s.object (calls_of calls ranks)) at e))

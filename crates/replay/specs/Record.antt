@@ -1,6 +1,6 @@
 -- What a replay leaves in its buffers: the marker's run (SCOPE 0.3, 5).
 -- Assumes nothing.
-use Rattle.std.specs.Prelude.{Bool, cond, ◌&&◌, ℕ, ◌*◌, eqb, length}
+use Rattle.std.specs.Prelude.{Bool, true, false, cond, ◌&&◌, ℕ, ◌*◌, eqb, length}
 use mathlib.Core.List.{List, map, flat_map}
 use Rattle.listings.specs.Bytes.{Bytes}
 use Rattle.listings.specs.Calls.{Said}
@@ -9,8 +9,6 @@ use Rattle.families.specs.declared.Family.{Family}
 use Rattle.families.specs.Table.{Lent}
 use Rattle.families.specs.Codes.{code_of}
 use Rattle.families.specs.Marker.{marker}
-use Rattle.replay.specs.declared.Replayed.{Replayed}
-use Rattle.replay.specs.declared.Replayed.TheVariants.{Ran, Misfit}
 use Rattle.replay.specs.Codes.{calls_of, known}
 
 -- the buffers that a replay writes
@@ -40,11 +38,11 @@ trail_of run = flat_map (λ s. s.1) run
 unfoldable pub kept : Bytes → List Said → Buffers
 kept x run = buffers (finally x run) (codes_of run) (trail_of run)
 
--- what a replay answers, and its buffers
+-- whether the calls were run, and the buffers
 abbrev pub Outcome : Type 0
-Outcome = Replayed × Buffers
+Outcome = Bool × Buffers
 
 -- where the buffers fit, they keep the marker's run (SCOPE 0.3); else nothing is changed
 unfoldable pub outcome : List ℕ → List ℕ → Family → Lent → Buffers → Outcome
 outcome calls ranks f lists b =
-    cond (buffers_fit calls ranks b) (Ran, kept b.object (marker (calls_of calls ranks) f lists b.object)) (Misfit, b)
+    cond (buffers_fit calls ranks b) (true, kept b.object (marker (calls_of calls ranks) f lists b.object)) (false, b)

@@ -2,7 +2,7 @@
 // bytes after every call, which is the marker's run.
 #![tactic(auto)]
 
-ghost use Rattle.std.specs.Prelude.{◌≡◌, ◌++◌, map, ◌+◌, ◌*◌, ◌≤◌, length, take};
+ghost use Rattle.std.specs.Prelude.{◌≡◌, ◌++◌, map, ◌+◌, ◌*◌, ◌≤◌, is_ok, length, take};
 ghost use Rattle.families.specs.Table.{lent};
 ghost use Rattle.families.specs.Calls.{respond, run as heard};
 ghost use Rattle.families.specs.Codes.{Coded, coded};
@@ -11,26 +11,19 @@ ghost use Rattle.replay.specs.Record.{buffers, kept, Outcome, outcome};
 
 use families::{Family, Lists, codes};
 
-// The calls were run, or a buffer or a code didn't fit and nothing was touched.
-#[derive(Clone, Copy)]
-pub enum Replayed {
-    Ran,
-    Misfit,
-}
+// A code that is no call's, or a buffer of another length: nothing was run, and nothing touched.
+#[derive(Clone, Copy, Debug, PartialEq, Eq)]
+pub struct Misfit;
 
 // Is every code that of a call?
+#[tactic(auto, using(crate::proofs::Coding::low, crate::proofs::Coding::high, crate::proofs::Coding::known_on, crate::proofs::Coding::known_end))]
 fn known(calls: &[u8]) -> bool
     ensures { result ≡ all_known calls.now }
 {
-    let mut i = 0;
-    while i < calls.len() {
-        if calls[i] < 1 {
+    for call in calls {
+        if *call < 1 || 5 < *call {
             return false;
         }
-        if 5 < calls[i] {
-            return false;
-        }
-        i += 1;
     }
     true
 }
@@ -39,19 +32,13 @@ fn known(calls: &[u8]) -> bool
 fn one_call<'a>(call: u8, rank: u64, f: Family, lists: Lists<'a>, object: &mut [u8]) -> u8
     ensures { ◌≡◌ {A = Coded} (result, object.new) (coded (respond (call_of call rank) f (lent (map (λ x. x.now) lists.entry)) object.old)) }
 {
-    if call == 2 {
-        return codes::written(families::last(f, lists, object));
+    match call {
+        2 => codes::written(families::last(f, lists, object)),
+        3 => codes::stepped(families::next(f, lists, object)),
+        4 => codes::stepped(families::previous(f, lists, object)),
+        5 => codes::written(families::unrank(rank, f, lists, object)),
+        _ => codes::written(families::first(f, lists, object)),
     }
-    if call == 3 {
-        return codes::stepped(families::next(f, lists, object));
-    }
-    if call == 4 {
-        return codes::stepped(families::previous(f, lists, object));
-    }
-    if call == 5 {
-        return codes::written(families::unrank(rank, f, lists, object));
-    }
-    codes::written(families::first(f, lists, object))
 }
 
 // The bytes after a call, at their place in the trail.
@@ -59,8 +46,7 @@ fn keep(trail: &mut [u8], at: usize, object: &[u8])
     requires { at + length object.now ≤ length trail.old }
     ensures { take (at + length object.now) trail.new ≡ take at trail.old ++ object.now }
 {
-    let end = at + object.len();
-    listings::copy(&mut trail[at..end], object);
+    trail[at..at + object.len()].copy_from_slice(object);
 }
 
 // The calls one after the other, each with its answer's code and the bytes after it.
@@ -78,13 +64,11 @@ fn run<'a>(
     requires room { length trail.old ≡ length calls.now * length object.old }
     ensures { buffers object.new answers.new trail.new ≡ kept object.old (heard (calls_of calls.now ranks.now) f (lent (map (λ x. x.now) lists.entry)) object.old) }
 {
-    let mut i = 0;
     let mut at = 0;
-    while i < calls.len() {
-        answers[i] = one_call(calls[i], ranks[i], f, lists, object);
+    for (i, call) in calls.iter().enumerate() {
+        answers[i] = one_call(*call, ranks[i], f, lists, object);
         keep(trail, at, object);
         at += object.len();
-        i += 1;
     }
 }
 
@@ -97,21 +81,21 @@ pub fn replay<'a>(
     object: &mut [u8],
     answers: &mut [u8],
     trail: &mut [u8],
-) -> Replayed
-    ensures { ◌≡◌ {A = Outcome} (result, buffers object.new answers.new trail.new) (outcome calls.now ranks.now f (lent (map (λ x. x.now) lists.entry)) (buffers object.old answers.old trail.old)) }
+) -> Result<(), Misfit>
+    ensures { ◌≡◌ {A = Outcome} (is_ok result, buffers object.new answers.new trail.new) (outcome calls.now ranks.now f (lent (map (λ x. x.now) lists.entry)) (buffers object.old answers.old trail.old)) }
 {
     if !known(calls) {
-        return Replayed::Misfit;
+        return Err(Misfit);
     }
     if ranks.len() != calls.len() {
-        return Replayed::Misfit;
+        return Err(Misfit);
     }
     if answers.len() != calls.len() {
-        return Replayed::Misfit;
+        return Err(Misfit);
     }
     if !basics::is_product(trail.len(), calls.len(), object.len()) {
-        return Replayed::Misfit;
+        return Err(Misfit);
     }
     run(calls, ranks, f, lists, object, answers, trail);
-    Replayed::Ran
+    Ok(())
 }
