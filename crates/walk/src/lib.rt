@@ -11,16 +11,17 @@ ghost use Rattle.families.specs.Table.{lent};
 ghost use Rattle.families.specs.Families.{is_object, count_of};
 ghost use Rattle.families.specs.Questions.{rank_refusal};
 ghost use Rattle.families.specs.Calls.{respond};
-ghost use Rattle.families.specs.Answers.{ranked_as, stepped_as};
+ghost use Rattle.families.specs.Answers.{number_of, ranked_as, stepped_as};
 ghost use Rattle.walk.specs.declared.Walk.{Walk as WalkOf};
 ghost use Rattle.walk.specs.Walks.{call_of, kept, Outcome, step_refusal, step_kept, step_walk, start_of, way_of, run_of};
 ghost use Rattle.walk.specs.declared.Way.TheVariants.{Forth, Back};
 
 use basics::LONGEST_OBJECT;
-use families::{Call, Family, Lists, Ranked, Stepped, Verdict, codes};
+use families::{Call, Family, Lists, Refusal, codes};
+use listings::Step;
 
 // The way a step goes: as NEXT or as PREVIOUS.
-#[derive(Clone, Copy)]
+#[derive(Clone, Copy, Debug, PartialEq, Eq)]
 pub enum Way {
     Forth,
     Back,
@@ -40,35 +41,34 @@ pub struct Walk {
 #[derive(Clone, Copy)]
 pub struct Started {
     pub walk: Walk,
-    pub answer: Ranked,
+    pub answer: Result<u64, Refusal>,
 }
 
 // A step: what NEXT or PREVIOUS answers, and the walk.
 #[derive(Clone, Copy)]
 pub struct Stride {
     pub walk: Walk,
-    pub answer: Stepped,
+    pub answer: Result<Step, Refusal>,
 }
 
 // A step on lent bytes: the answer, and the number then.
 #[derive(Clone, Copy)]
 pub struct Numbered {
-    pub answer: Stepped,
+    pub answer: Result<Step, Refusal>,
     pub number: u64,
 }
 
 // A step on, or one back.
+#[tactic(auto, unfolding(crate::specs::Walks::way_of))]
 fn way_of(on: bool) -> Way
     ensures { result ≡ way_of on }
 {
-    if on {
-        return Way::Forth;
-    }
-    Way::Back
+    if on { Way::Forth } else { Way::Back }
 }
 
 // The call of a step.
-fn call<'a>(way: Way, f: Family, lists: Lists<'a>, object: &mut [u8]) -> Stepped
+#[tactic(auto, unfolding(crate::specs::Walks::call_of))]
+fn call<'a>(way: Way, f: Family, lists: Lists<'a>, object: &mut [u8]) -> Result<Step, Refusal>
     ensures { ◌≡◌ {A = Said} (stepped_as result, object.new) (respond (call_of way) f (lent (map (λ x. x.now) lists.entry)) object.old) }
 {
     match way {
@@ -78,26 +78,27 @@ fn call<'a>(way: Way, f: Family, lists: Lists<'a>, object: &mut [u8]) -> Stepped
 }
 
 // The first question that a step misses whose number misses 5 or 8.
-fn missed<'a>(f: Family, lists: Lists<'a>, object: &[u8]) -> u8
-    ensures { (number q : ℕ) → rank_refusal number (count_of f (lent (map (λ x. x.now) lists.entry))) ≡ some q → step_refusal f (lent (map (λ x. x.now) lists.entry)) (length object.now) (is_object f (lent (map (λ x. x.now) lists.entry)) object.now) number ≡ some result }
+#[tactic(auto, using(crate::proofs::Asked::missed_first, crate::proofs::Asked::rank_missed))]
+fn missed<'a>(f: Family, lists: Lists<'a>, object: &[u8]) -> Refusal
+    ensures { (number q : ℕ) → rank_refusal number (count_of f (lent (map (λ x. x.now) lists.entry))) ≡ some q → step_refusal f (lent (map (λ x. x.now) lists.entry)) (length object.now) (is_object f (lent (map (λ x. x.now) lists.entry)) object.now) number ≡ some (number_of result) }
 {
-    let Verdict::No(q) = families::ask(Call::Rank, f, lists, object) else {
-        return 8;
-    };
-    q
+    match families::ask(Call::Rank, f, lists, object) {
+        Ok(()) => Refusal::Rank,
+        Err(refusal) => refusal,
+    }
 }
 
 // The first question that a step misses on more bytes than any object has.
-fn missed_beyond<'a>(f: Family, lists: Lists<'a>) -> u8
-    ensures { (size : ℕ) (holds : Bool) (number : ℕ) → longest_object < size → step_refusal f (lent (map (λ x. x.now) lists.entry)) size holds number ≡ some result }
+fn missed_beyond<'a>(f: Family, lists: Lists<'a>) -> Refusal
+    ensures { (size : ℕ) (holds : Bool) (number : ℕ) → longest_object < size → step_refusal f (lent (map (λ x. x.now) lists.entry)) size holds number ≡ some (number_of result) }
 {
-    let Verdict::No(q) = families::opening(Call::Rank, f, lists) else {
-        let Verdict::No(p) = families::rank_below(0, f, lists) else {
-            return 6;
-        };
-        return p;
-    };
-    q
+    if let Err(refusal) = families::opening(Call::Rank, f, lists) {
+        return refusal;
+    }
+    match families::rank_below(0, f, lists) {
+        Ok(()) => Refusal::Length,
+        Err(refusal) => refusal,
+    }
 }
 
 // A step whose number is below a count that fits.
@@ -112,26 +113,37 @@ fn step_numbered<'a>(
     requires lists_bound { count_of f (lent (map (λ x. x.now) lists)) < 2 ^ 64 }
     ensures { ◌≡◌ {A = Outcome} (stepped_as result.answer, kept object.new result.number) (step_kept way f (lent (map (λ x. x.now) lists.entry)) (length object.old) (kept object.old number)) }
 {
-    let answer = call(way, f, lists, object);
-    let Stepped::Moved = answer else {
-        return Numbered { answer, number };
-    };
+    match call(way, f, lists, object) {
+        Ok(Step::Moved) => {}
+        Ok(Step::End) => {
+            return Numbered {
+                answer: Ok(Step::End),
+                number,
+            };
+        }
+        Err(refusal) => {
+            return Numbered {
+                answer: Err(refusal),
+                number,
+            };
+        }
+    }
     let Way::Back = way else {
         return Numbered {
-            answer,
+            answer: Ok(Step::Moved),
             number: number + 1,
         };
     };
     if number == 0 {
         // No number is left for the object found: back to where the step came from.
-        call(Way::Forth, f, lists, object);
+        let _ = call(Way::Forth, f, lists, object);
         return Numbered {
-            answer: Stepped::Refused(8),
+            answer: Err(Refusal::Rank),
             number,
         };
     }
     Numbered {
-        answer,
+        answer: Ok(Step::Moved),
         number: number - 1,
     }
 }
@@ -146,12 +158,12 @@ pub fn step_lent<'a>(
 ) -> Numbered
     ensures { ◌≡◌ {A = Outcome} (stepped_as result.answer, kept object.new result.number) (step_kept way f (lent (map (λ x. x.now) lists.entry)) (length object.old) (kept object.old number)) }
 {
-    let Verdict::No(_) = families::rank_below(number, f, lists) else {
-        return step_numbered(way, number, f, lists, object);
-    };
-    Numbered {
-        answer: Stepped::Refused(missed(f, lists, object)),
-        number,
+    match families::rank_below(number, f, lists) {
+        Ok(()) => step_numbered(way, number, f, lists, object),
+        Err(_) => Numbered {
+            answer: Err(missed(f, lists, object)),
+            number,
+        },
     }
 }
 
@@ -162,7 +174,7 @@ impl Walk {
     {
         let mut bytes = [0u8; LONGEST_OBJECT];
         let answer = families::rank(f, lists, object);
-        let Ranked::Rank(number) = answer else {
+        let Ok(rank) = answer else {
             return Started {
                 walk: Walk {
                     family: f,
@@ -174,13 +186,13 @@ impl Walk {
             };
         };
         let len = object.len();
-        listings::copy(&mut bytes[..len], object);
+        bytes[..len].copy_from_slice(object);
         Started {
             walk: Walk {
                 family: f,
                 bytes,
                 len: len as u64,
-                number,
+                number: rank,
             },
             answer,
         }
@@ -197,15 +209,17 @@ impl Walk {
         if size > LONGEST_OBJECT as u64 {
             return Stride {
                 walk: self,
-                answer: Stepped::Refused(missed_beyond(f, lists)),
+                answer: Err(missed_beyond(f, lists)),
             };
         }
         let len = size as usize;
         let after = step_lent(way, number, f, lists, &mut bytes[..len]);
-        let answer = after.answer;
         self.bytes = bytes;
         self.number = after.number;
-        Stride { walk: self, answer }
+        Stride {
+            walk: self,
+            answer: after.answer,
+        }
     }
 
     // A step on, as NEXT.
@@ -227,14 +241,10 @@ impl Walk {
         ensures { ◌≡◌ {A = WalkOf × Bytes} (result, answers.new) (run_of self (lent (map (λ x. x.now) lists.entry)) on.now answers.old) }
     {
         let mut walk = self;
-        let mut i = 0;
-        while i < on.len() && i < answers.len() {
+        for i in 0..on.len().min(answers.len()) {
             let stride = walk.step(way_of(on[i]), lists);
-            let answer = stride.answer;
-            answers[i] = codes::stepped(answer);
-            let after = stride.walk;
-            walk = after;
-            i += 1;
+            answers[i] = codes::stepped(stride.answer);
+            walk = stride.walk;
         }
         walk
     }
