@@ -5,17 +5,19 @@ use Prim.Native.Nat.{ℕ}
 use lib.IntN.{ℤ}
 use borrow.Author.Tests.{ne_eqb}
 use Rattle.listings.specs.Bytes.{Bytes}
-use Rattle.listings.specs.Calls.{Call, Answer, REFUSED, Said}
+use Rattle.std.specs.Prelude.{Result, Ok, Err}
+use Rattle.listings.specs.Calls.{Call, Answer, Said}
 use Rattle.families.specs.declared.Family.{Family}
+use Rattle.families.specs.declared.refusal.Refusal.{Refusal}
 use Rattle.families.specs.Table.{Lent}
+use Rattle.families.specs.Answers.{number_of, counted_as, ranked_as, length_as}
 use Rattle.families.specs.Calls.{respond}
 use Rattle.families.specs.Codes.{code_of, value_of, Coded}
 use Rattle.walk.specs.declared.Way.{Way}
 use Rattle.walk.specs.Walks.{Kept, Outcome, step_kept}
 use Rattle.jump.specs.Jumps.{jump}
-use Rattle.checker.specs.declared.Checked.{Checked}
-use Rattle.checker.specs.Checking.{Says}
-use Rattle.arrangements.specs.Told.{plain, told, Valued, valued, CodedStep, told_step, check_told, ToldCheck}
+use Rattle.checker.specs.Checking.{Checked, Says}
+use Rattle.arrangements.specs.Told.{plain, told, Valued, valued, number_told, CodedStep, told_step, check_told, ToldCheck}
 
 -- a code that is neither 20 nor 21 is told as it is
 pub others : (code : ℕ) → (code ≡ 20 → ⊥) → (code ≡ 21 → ⊥) → code ≡ plain code
@@ -40,14 +42,35 @@ module _ {b b' : Lent} (same : b ≡ b') (f : Family) {a : Answer} {y : Bytes} (
   pub answering : a ≡ (respond c f b' x).0
   answering = ap (λ (s : Said). s.0) heard
 
--- an answer a that was found to be a', and that is w: a number, or a refusal that leaves the number v
-module _ {a a' w : Answer} (v : ℕ) (found : a ≡ a') (due : a ≡ w) where
-  pub valuing : ◌≡◌ {A = Valued} (valued a' v) (valued w v)
-  valuing = ap (λ (a : Answer). valued a v) (sym found ∙ due)
+-- a number, or a refusal, is told as what it answers
+module _ (v : ℕ) where
+  refusal_told : (q : Refusal) → number_of q ≡ plain (number_of q)
+  unfolding plain
+  refusal_told Refusal.Kind = refl
+  refusal_told Refusal.Sizes = refl
+  refusal_told Refusal.Counts = refl
+  refusal_told Refusal.NoObject = refl
+  refusal_told Refusal.TooMany = refl
+  refusal_told Refusal.Length = refl
+  refusal_told Refusal.NotAnObject = refl
+  refusal_told Refusal.Rank = refl
+  refusal_told Refusal.Floor = refl
+  refusal_told Refusal.Edition = refl
 
-  pub refusing : {r q : ℕ} → a' ≡ REFUSED q → r ≡ plain q → ◌≡◌ {A = Valued} (r, v) (valued w v)
-  unfolding code_of value_of
-  refusing e er = ap (λ (r : ℕ). (r, v)) er ∙ ap (λ (a : Answer). valued a v) (sym e) ∙ valuing
+  pub told_counted : (r : Result ℕ Refusal) → number_told r v ≡ valued (counted_as r) v
+  unfolding plain code_of value_of
+  told_counted (Ok n) = refl
+  told_counted (Err q) = ap (λ (r : ℕ). (r, v)) (refusal_told q)
+
+  pub told_ranked : (r : Result ℕ Refusal) → number_told r v ≡ valued (ranked_as r) v
+  unfolding plain code_of value_of
+  told_ranked (Ok n) = refl
+  told_ranked (Err q) = ap (λ (r : ℕ). (r, v)) (refusal_told q)
+
+  pub told_long : (r : Result ℕ Refusal) → number_told r v ≡ valued (length_as r) v
+  unfolding plain code_of value_of
+  told_long (Ok n) = refl
+  told_long (Err q) = ap (λ (r : ℕ). (r, v)) (refusal_told q)
 
 -- a jump
 pub telling_jump : {b b' : Lent} → b ≡ b' → (f : Family) {a : Answer} {y : Bytes} (d : ℤ) (x : Bytes) → ◌≡◌ {A = Said} (a, y) (jump f b d x)
@@ -60,6 +83,6 @@ pub telling_step : {b b' : Lent} → b ≡ b' → (f : Family) {a : Answer} {lef
 telling_step same f way size w said = telling_left (said ∙ ap {B = Outcome} (λ (b : Lent). step_kept way f b size w) same)
 
 -- a check: what is told is told of the answer that it gave
-pub telling_check : {b b' : Lent} → b ≡ b' → (f : Family) (m : ℕ) (s : Bytes) (v : ℕ) {r a : Checked} → r ≡ a → Says f b m s r → ToldCheck f b' m s v (check_told a v)
-telling_check same f m s v {a = a} found says =
-    record { answer = a; says = subst (λ (b : Lent). Says f b m s a) same (subst (Says f _ m s) found says); told = refl }
+pub telling_check : {b b' : Lent} → b ≡ b' → (f : Family) (m : ℕ) (s : Bytes) (v : ℕ) (a : Checked) → Says f b m s a → ToldCheck f b' m s v (check_told a v)
+telling_check same f m s v a says =
+    record { answer = a; says = subst (λ (b : Lent). Says f b m s a) same says; told = refl }

@@ -10,10 +10,10 @@ ghost use Rattle.families.specs.Codes.{Coded};
 ghost use Rattle.walk.specs.declared.Way.TheVariants.{Forth, Back};
 ghost use Rattle.walk.specs.Walks.{kept, step_kept};
 ghost use Rattle.jump.specs.Jumps.{jump as jump_of};
-ghost use Rattle.arrangements.specs.Told.{plain as plainly, told, Valued, valued, CodedStep, told_step, ToldCheck};
+ghost use Rattle.arrangements.specs.Told.{plain as plainly, told, Valued, valued, number_told, CodedStep, told_step, ToldCheck};
 
-use checker::Checked;
-use families::{Counted, Family, Length, Lists, Ranked, codes};
+use checker::CheckError;
+use families::{Family, Lists, Refusal, codes};
 use walk::Way;
 
 // The lists as `families` takes them. A later list is one more place.
@@ -25,42 +25,39 @@ fn by_value<'a>(lists: &Lists<'a>) -> Lists<'a>
 }
 
 // The code that a caller is told.
+#[tactic(auto, unfolding(crate::specs::Told::plain))]
 fn plain(code: u8) -> u32
     ensures { result ≡ plainly code }
 {
-    if code == 20 {
-        return 0;
+    match code {
+        20 | 21 => 0,
+        _ => u32::from(code),
     }
-    if code == 21 {
-        return 0;
+}
+
+// A number for the caller, and 0; or the code of a refusal, and no number.
+fn tell(answer: Result<u64, Refusal>, value: &mut u64) -> u32
+    ensures { ◌≡◌ {A = Valued} (result, value.new) (number_told answer value.old) }
+{
+    match answer {
+        Ok(number) => {
+            *value = number;
+            0
+        }
+        Err(refusal) => u32::from(u8::from(refusal)),
     }
-    code as u32
 }
 
 pub fn arrangement_object_length(f: Family, lists: &Lists, value: &mut u64) -> u32
     ensures { ◌≡◌ {A = Valued} (result, value.new) (valued (measured f (lent (map (λ x. x.now) lists.now))) value.old) }
 {
-    let answer = families::object_length(f, by_value(lists));
-    match answer {
-        Length::Bytes(bytes) => {
-            *value = bytes;
-            0
-        }
-        Length::Refused(q) => plain(q),
-    }
+    tell(families::object_length(f, by_value(lists)), value)
 }
 
 pub fn arrangement_count(f: Family, lists: &Lists, value: &mut u64) -> u32
     ensures { ◌≡◌ {A = Valued} (result, value.new) (valued (respond COUNT f (lent (map (λ x. x.now) lists.now)) []).0 value.old) }
 {
-    let answer = families::count(f, by_value(lists));
-    match answer {
-        Counted::Objects(objects) => {
-            *value = objects;
-            0
-        }
-        Counted::Refused(q) => plain(q),
-    }
+    tell(families::count(f, by_value(lists)), value)
 }
 
 pub fn arrangement_first(f: Family, lists: &Lists, object: &mut [u8]) -> u32
@@ -90,14 +87,7 @@ pub fn arrangement_previous(f: Family, lists: &Lists, object: &mut [u8]) -> u32
 pub fn arrangement_rank(f: Family, lists: &Lists, object: &[u8], value: &mut u64) -> u32
     ensures { ◌≡◌ {A = Valued} (result, value.new) (valued (respond RANK f (lent (map (λ x. x.now) lists.now)) object.now).0 value.old) }
 {
-    let answer = families::rank(f, by_value(lists), object);
-    match answer {
-        Ranked::Rank(rank) => {
-            *value = rank;
-            0
-        }
-        Ranked::Refused(q) => plain(q),
-    }
+    tell(families::rank(f, by_value(lists), object), value)
 }
 
 pub fn arrangement_unrank(rank: u64, f: Family, lists: &Lists, object: &mut [u8]) -> u32
@@ -122,14 +112,14 @@ pub fn arrangement_check(
 ) -> u32
     ensures { ToldCheck f (lent (map (λ x. x.now) lists.now)) entries bytes.now place.old (result, place.new) }
 {
-    let answer = checker::check(f, by_value(lists), entries, bytes);
-    match answer {
-        Checked::Accepted => 0,
-        Checked::Wrong(wrong) => {
+    match checker::check(f, by_value(lists), entries, bytes) {
+        Ok(()) => 0,
+        Err(CheckError::Wrong(wrong)) => {
             *place = wrong;
             101
         }
-        Checked::Refused(q) => q as u32,
+        Err(CheckError::Entries) => 12,
+        Err(CheckError::Refused(refusal)) => u32::from(u8::from(refusal)),
     }
 }
 
@@ -140,8 +130,7 @@ fn walk_step(way: Way, f: Family, lists: &Lists, object: &mut [u8], number: &mut
     let before = *number;
     let after = walk::step_lent(way, before, f, by_value(lists), object);
     *number = after.number;
-    let answer = after.answer;
-    plain(codes::stepped(answer))
+    plain(codes::stepped(after.answer))
 }
 
 pub fn arrangement_walk_next(f: Family, lists: &Lists, object: &mut [u8], number: &mut u64) -> u32

@@ -1,0 +1,7 @@
+-- The code of what `families::first` answers, and the bytes that it leaves.
+use Rattle.listings.specs.Calls.{FIRST}
+use Rattle.arrangements.proofs.Telling.{telling}
+use Rattle.arrangements.proofs.arrangement_first.Goals as goal
+
+pub returns : goal.returns
+returns c = telling c.by_value.ensures _ FIRST _ c.first.ensures c.written.ensures c.plain.ensures

@@ -1,0 +1,7 @@
+-- The code of what `families::last` answers, and the bytes that it leaves.
+use Rattle.listings.specs.Calls.{LAST}
+use Rattle.arrangements.proofs.Telling.{telling}
+use Rattle.arrangements.proofs.arrangement_last.Goals as goal
+
+pub returns : goal.returns
+returns c = telling c.by_value.ensures _ LAST _ c.last.ensures c.written.ensures c.plain.ensures

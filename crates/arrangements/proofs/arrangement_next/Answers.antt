@@ -1,0 +1,7 @@
+-- The code of what `families::next` answers, and the bytes that it leaves.
+use Rattle.listings.specs.Calls.{NEXT}
+use Rattle.arrangements.proofs.Telling.{telling}
+use Rattle.arrangements.proofs.arrangement_next.Goals as goal
+
+pub returns : goal.returns
+returns c = telling c.by_value.ensures _ NEXT _ c.next.ensures c.stepped.ensures c.plain.ensures

@@ -1,0 +1,7 @@
+-- The code of what `families::previous` answers, and the bytes that it leaves.
+use Rattle.listings.specs.Calls.{PREVIOUS}
+use Rattle.arrangements.proofs.Telling.{telling}
+use Rattle.arrangements.proofs.arrangement_previous.Goals as goal
+
+pub returns : goal.returns
+returns c = telling c.by_value.ensures _ PREVIOUS _ c.previous.ensures c.stepped.ensures c.plain.ensures

@@ -1,0 +1,7 @@
+-- The code of what `families::unrank` answers, and the bytes that it leaves.
+use Rattle.listings.specs.Calls.{UNRANK}
+use Rattle.arrangements.proofs.Telling.{telling}
+use Rattle.arrangements.proofs.arrangement_unrank.Goals as goal
+
+pub returns : goal.returns
+returns c = telling c.by_value.ensures _ (UNRANK _) _ c.unrank.ensures c.written.ensures c.plain.ensures

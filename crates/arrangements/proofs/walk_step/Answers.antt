@@ -1,0 +1,6 @@
+-- The step's answer as a code, and the number through the lent one.
+use Rattle.arrangements.proofs.Telling.{telling_step}
+use Rattle.arrangements.proofs.walk_step.Goals as goal
+
+pub returns : goal.returns
+returns c = telling_step c.by_value.ensures _ _ _ _ c.step_lent-after.ensures c.stepped.ensures c.plain.ensures
