@@ -10,7 +10,7 @@ use native.Mathlib.Numerals.{add-one, sub-one}
 use native.Mathlib.Decide.{dec_lt}
 use native.Mathlib.Omega.{arith}
 use lib.Dec.{leb, eqb}
-use lib.ListN.{length, get_or, take, drop, replicate, length-drop}
+use lib.ListN.{length, get_or, take, drop, replicate, length-drop, drop_of_length-le}
 use lib.Seq.{drop-cons, take_all}
 use borrow.Author.Tests.{le-leb, lt-leb, leb-true, eq-eqb, ne_eqb}
 use Rattle.listings.specs.Bytes.{Bytes}
@@ -35,6 +35,10 @@ digit_high v b x h = rw (lt-leb b 57 h, and-false)
 -- from a place on
 pub digits_at : (x : Bytes) (i v : ℕ) → i < length x → digits v (drop i x) ≡ digits v (get_or x i 0 ∷ drop (i + 1) x)
 digits_at x i v h = rw (add-one, drop-cons x i 0)
+
+pub digits_end : (x : Bytes) (i v : ℕ) → length x ≤ i → digits v (drop i x) ≡ some v
+unfolding digits
+digits_end x i v h = rw drop_of_length-le
 
 -- a digit more, and a place more
 pub grown : (v b i : ℕ) → v < 10 ^ i → b ≤ 57 → 10 * v + (b - 48) < 10 ^ suc i
@@ -100,10 +104,10 @@ unfolding field
 field-none [] e = refl
 field-none (b ∷ x) e = absurd (omega arith)
 
-pub field-blank : (x : Bytes) → get_or x 0 0 ≡ blank → field x ≡ field (drop 1 x)
+pub field_blank : (x : Bytes) → get_or x 0 0 ≡ blank → field (take (length x - 1) (drop 1 x)) ≡ field x
 unfolding field
-field-blank [] e = refl
-field-blank (b ∷ x) e = rw (eq-eqb b blank e)
+field_blank [] e = refl
+field_blank (b ∷ x) e = rw (eq-eqb b blank e) (ap field (rest_is (b ∷ x) 1))
 
 pub field_lone : (x : Bytes) → length x ≡ 1 → get_or x 0 0 ≡ 48 → field x ≡ some 0
 unfolding field
@@ -146,3 +150,9 @@ reads_back (suc w) n h = elim (dec_lt n 10) [
   | yes l ↦ digit_back (suc w) n l
   | no k ↦ digits-back (suc w) n (omega arith) (reads_back w (n / 10) (omega (arith, pow-suc 10 (suc w))))
 ]
+
+-- digit by digit
+pub ruleset digit_cases = (digits_at, digits_end, digit_read, digit_low, digit_high, grown)
+
+-- a field by its first byte
+pub ruleset field_cases = (field-none, field_blank, field_lone, field_leading, field-number)
