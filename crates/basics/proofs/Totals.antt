@@ -1,6 +1,6 @@
 -- Sums of lists joined, and of the first and the last numbers of a list; a sum that is counted to a limit.
 -- Assumes nothing.
-use mathlib.Core.Path.{◌≡◌, sym, ◌∙◌, ap}
+use mathlib.Core.Path.{◌≡◌, refl, sym, ◌∙◌, ap}
 use mathlib.Core.List.{List, [], ◌∷◌, ◌++◌}
 use Prim.Native.Nat.{ℕ, zero, suc, ◌+◌, ◌≤◌, ◌<◌, min}
 use native.Mathlib.Decide.{dec_le}
@@ -11,6 +11,8 @@ use lib.Dec.{leb}
 use lib.ListN.{length, get_or, take, drop, take-append-drop, drop_of_length-le}
 use lib.Seq.{drop-cons, take-suc}
 use borrow.Author.Tests.{lt-leb}
+use Rattle.std.specs.List.{sum}
+use Rattle.std.proofs.lemmas.List.Recursion.{is_sum_by}
 use Rattle.basics.specs.Sums.{total}
 
 pub total-append : (x y : List ℕ) → total (x ++ y) ≡ total x + total y
@@ -44,6 +46,11 @@ unfolding total
 total-drop-le cs zero = le_refl _
 total-drop-le [] (suc i) = le_refl 0
 total-drop-le (c ∷ cs) (suc i) = omega (arith, total-drop-le cs i)
+
+-- the library's sum
+pub total_is_sum : (x : List ℕ) → total x ≡ sum x
+unfolding total
+total_is_sum = is_sum_by total (λ x. x) refl (λ x xs. refl)
 
 -- a sum that is counted only to just above a limit is within the limit where the whole sum is
 pub to_limit : (v m : ℕ) → leb (min v (suc m)) m ≡ leb v m

@@ -17,53 +17,45 @@ pub const FLOORS: u64 = 80;
 // The room that any object needs.
 pub const LONGEST_OBJECT: usize = PLACES as usize;
 
-// A byte as a number, in a function of its own: its callers' proofs read the number and not the cast.
+// A byte as a number.
 pub fn wide(b: u8) -> u64
     ensures { result ≡ b }
 {
-    b as u64
+    u64::from(b)
 }
 
 // The sum of bytes that are few or small.
+#[tactic(auto, using(crate::proofs::Totals::total_is_sum))]
 pub fn sum(bytes: &[u8]) -> u64
     requires { total bytes.now < 2 ^ 64 }
     ensures { result ≡ total bytes.now }
 {
-    let mut s: u64 = 0;
-    let mut i = 0;
-    while i < bytes.len() {
-        s += wide(bytes[i]);
-        i += 1;
-    }
-    s
+    bytes.iter().map(|b| u64::from(*b)).sum()
 }
 
 // The sum where it is at most the limit, and one more than the limit where it isn't: it stops at the first byte that leads past it.
+#[tactic(auto, using(crate::proofs::Totals::total_is_sum, std::proofs::lemmas::List::Sums::sum_by_more_le, std::proofs::lemmas::Grind::common_steps))]
 pub fn sum_to_limit(limit: u64, bytes: &[u8]) -> u64
     requires { limit + 256 < 2 ^ 64 }
     ensures { result ≡ min (total bytes.now) (limit + 1) }
 {
-    let mut s: u64 = 0;
-    let mut i = 0;
-    while i < bytes.len() {
-        s += wide(bytes[i]);
-        if limit < s {
+    let mut sum: u64 = 0;
+    for b in bytes {
+        sum += u64::from(*b);
+        if limit < sum {
             return limit + 1;
         }
-        i += 1;
     }
-    s
+    sum
 }
 
 // Is whole the product of many and size? Nothing is multiplied, since the product of two lengths may be too large.
+#[tactic(auto, using(crate::proofs::Products::remainder_none, crate::proofs::Products::quotient_tells))]
 pub fn is_product(whole: usize, many: usize, size: usize) -> bool
     ensures { result ≡ eqb whole (many * size) }
 {
     if size == 0 {
         return whole == 0;
     }
-    if whole % size != 0 {
-        return false;
-    }
-    whole / size == many
+    whole % size == 0 && whole / size == many
 }

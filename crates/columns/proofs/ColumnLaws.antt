@@ -13,6 +13,11 @@ use borrow.Author.Tests.{ne_eqb}
 use Rattle.listings.specs.Bytes.{Bytes}
 use Rattle.columns.specs.Columns.{blank, column}
 
+-- a column of no place
+pub column_none : (w n : ℕ) → w ≡ 0 → column w n ≡ []
+unfolding column
+column_none w n e = rw e
+
 -- a number of one digit, and a longer one, in a column of at least one place
 pub column_digit : (w n : ℕ) → (w ≡ 0 → ⊥) → n < 10 → column w n ≡ replicate (w - 1) blank ++ ((48 + n) ∷ [])
 unfolding column

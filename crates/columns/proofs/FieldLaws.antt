@@ -10,7 +10,7 @@ use native.Mathlib.Numerals.{add-one, sub-one}
 use native.Mathlib.Decide.{dec_lt}
 use native.Mathlib.Omega.{arith}
 use lib.Dec.{leb, eqb}
-use lib.ListN.{length, get_or, take, drop, replicate, length-drop}
+use lib.ListN.{length, get_or, take, drop, replicate, length-drop, drop_of_length-le}
 use lib.Seq.{drop-cons, take_all}
 use borrow.Author.Tests.{le-leb, lt-leb, leb-true, eq-eqb, ne_eqb}
 use Rattle.listings.specs.Bytes.{Bytes}
@@ -19,38 +19,42 @@ use Rattle.columns.specs.Columns.{blank, column}
 use Rattle.columns.specs.Fields.{field_width, largest_field, digits, field}
 use Rattle.columns.proofs.ColumnLaws.{column_digit, column-digits}
 
--- the bytes that are digits
-pub digit_read : (v b : ℕ) (x : Bytes) → 48 ≤ b → b ≤ 57 → digits v (b ∷ x) ≡ digits (10 * v + (b - 48)) x
+-- a digit is read
+digit_read : (v b : ℕ) (x : Bytes) → 48 ≤ b → b ≤ 57 → digits v (b ∷ x) ≡ digits (10 * v + (b - 48)) x
 unfolding digits
 digit_read v b x l h = rw (le-leb 48 b l, le-leb b 57 h)
 
-pub digit_low : (v b : ℕ) (x : Bytes) → b < 48 → digits v (b ∷ x) ≡ none
-unfolding digits
-digit_low v b x l = rw (lt-leb 48 b l)
+-- from a place on: a digit, another byte, or the end
+pub digits_at : (x : Bytes) (i v : ℕ) → i < length x → 48 ≤ get_or x i 0 → get_or x i 0 ≤ 57 → digits v (drop i x) ≡ digits (10 * v + (get_or x i 0 - 48)) (drop (i + 1) x)
+digits_at x i v h l k = rw (add-one, drop-cons x i 0) (digit_read v (get_or x i 0) (drop (suc i) x) l k)
 
-pub digit_high : (v b : ℕ) (x : Bytes) → 57 < b → digits v (b ∷ x) ≡ none
+pub digits_below : (x : Bytes) (i v : ℕ) → i < length x → get_or x i 0 < 48 → digits v (drop i x) ≡ none
 unfolding digits
-digit_high v b x h = rw (lt-leb b 57 h, and-false)
+digits_below x i v h l = rw (drop-cons x i 0, lt-leb 48 (get_or x i 0) l)
 
--- from a place on
-pub digits_at : (x : Bytes) (i v : ℕ) → i < length x → digits v (drop i x) ≡ digits v (get_or x i 0 ∷ drop (i + 1) x)
-digits_at x i v h = rw (add-one, drop-cons x i 0)
+pub digits_above : (x : Bytes) (i v : ℕ) → i < length x → 57 < get_or x i 0 → digits v (drop i x) ≡ none
+unfolding digits
+digits_above x i v h l = rw (drop-cons x i 0, lt-leb (get_or x i 0) 57 l, and-false)
+
+pub digits_end : (x : Bytes) (i v : ℕ) → length x ≤ i → digits v (drop i x) ≡ some v
+unfolding digits
+digits_end x i v h = rw drop_of_length-le
 
 -- a digit more, and a place more
-pub grown : (v b i : ℕ) → v < 10 ^ i → b ≤ 57 → 10 * v + (b - 48) < 10 ^ suc i
-grown v b i h l = rw pow-suc (omega arith)
+pub grown : (v b i : ℕ) → v < 10 ^ i → b ≤ 57 → 10 * v + (b - 48) < 10 ^ (i + 1)
+grown v b i h l = rw (add-one, pow-suc) (omega arith)
 
 only_if : {A : Type 0} (b : Bool) {o : Option A} {a : A} → cond b o none ≡ some a → (b ≡ true) × (o ≡ some a)
 only_if true e = (refl, e)
 only_if false {a = a} e = absurd (none-ne-some a e)
 
-digits_below : (x : Bytes) (v i w : ℕ) → v < 10 ^ i → digits v x ≡ some w → w < 10 ^ (length x + i)
+number_below : (x : Bytes) (v i w : ℕ) → v < 10 ^ i → digits v x ≡ some w → w < 10 ^ (length x + i)
 unfolding digits
-digits_below [] v i w h e = rw (zero-add, ← some-injective v w e) h
-digits_below (b ∷ x) v i w h e =
+number_below [] v i w h e = rw (zero-add, ← some-injective v w e) h
+number_below (b ∷ x) v i w h e =
     let t = only_if (leb 48 b && leb b 57) e in
     let l : b ≤ 57 = leb-true b 57 (and-true (leb 48 b) (leb b 57) t.0).1 in
-    rw (suc-add, ← add-suc) (digits_below x (10 * v + (b - 48)) (suc i) w (grown v b i h l) t.1)
+    rw (suc-add, ← add-suc) (number_below x (10 * v + (b - 48)) (suc i) w (rw add-one at (grown v b i h l)) t.1)
 
 -- the three cases of a field: what follows in each follows, also of the case itself
 chosen : (P : Option ℕ → Type 0) (p q : Bool) {s l n s' l' n' : Option ℕ} {w : ℕ} → cond p s (cond q l n) ≡ some w → (s ≡ some w → P s') → (l ≡ some w → P l') → (n ≡ some w → P n') → P (cond p s' (cond q l' n'))
@@ -65,7 +69,7 @@ field_below [] w e = absurd (none-ne-some w e)
 field_below (b ∷ x) w e = chosen (λ _. w < 10 ^ length (b ∷ x)) (eqb b blank) (eqb b 48) {s' = none} {l' = none} {n' = none} e
     (λ s. rw pow-suc (omega (arith, field_below x w s)))
     (λ l. rw (← some-injective 0 w (only_if (eqb (length x) 0) l).1) (one-le-pow (suc (length x)) 10 (omega arith)))
-    (λ n. rw add-zero at (digits_below (b ∷ x) 0 0 w (omega arith) n))
+    (λ n. rw add-zero at (number_below (b ∷ x) 0 0 w (omega arith) n))
 
 -- "in 4 columns"
 pub field_small : (x : Bytes) (w : ℕ) → length x ≤ field_width → field x ≡ some w → w ≤ largest_field
@@ -100,10 +104,10 @@ unfolding field
 field-none [] e = refl
 field-none (b ∷ x) e = absurd (omega arith)
 
-pub field-blank : (x : Bytes) → get_or x 0 0 ≡ blank → field x ≡ field (drop 1 x)
+pub field_blank : (x : Bytes) → get_or x 0 0 ≡ blank → field (take (length x - 1) (drop 1 x)) ≡ field x
 unfolding field
-field-blank [] e = refl
-field-blank (b ∷ x) e = rw (eq-eqb b blank e)
+field_blank [] e = refl
+field_blank (b ∷ x) e = rw (eq-eqb b blank e) (ap field (rest_is (b ∷ x) 1))
 
 pub field_lone : (x : Bytes) → length x ≡ 1 → get_or x 0 0 ≡ 48 → field x ≡ some 0
 unfolding field
@@ -146,3 +150,9 @@ reads_back (suc w) n h = elim (dec_lt n 10) [
   | yes l ↦ digit_back (suc w) n l
   | no k ↦ digits-back (suc w) n (omega arith) (reads_back w (n / 10) (omega (arith, pow-suc 10 (suc w))))
 ]
+
+-- digit by digit
+pub ruleset digit_cases = (digits_below, digits_above, digits_end)
+
+-- a field by its first byte
+pub ruleset field_cases = (field-none, field_blank, field_lone, field_leading, field-number)

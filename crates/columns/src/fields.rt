@@ -8,49 +8,33 @@ pub const WIDTH: usize = 4;
 
 pub const LARGEST: usize = 9999;
 
-#[derive(Clone, Copy)]
-pub enum Value {
-    Number(u64),
-    Bad,
-}
-
 // Digits to the end.
-fn digits(part: &[u8]) -> Value
+#[tactic(auto, using(crate::proofs::FieldLaws::digit_cases), unfolding(crate::specs::Inner::Writing::value_as))]
+fn digits(part: &[u8]) -> Option<u64>
     requires { length part.now ≤ field_width }
     ensures { value_as result ≡ digits_of 0 part.now }
 {
-    let mut v: u64 = 0;
-    let mut i = 0;
-    while i < part.len() {
-        let b = part[i] as u64;
-        if b < 48 {
-            return Value::Bad;
+    let mut value = 0;
+    for digit in part {
+        if !digit.is_ascii_digit() {
+            return None;
         }
-        if 57 < b {
-            return Value::Bad;
-        }
-        v = 10 * v + (b - 48);
-        i += 1;
+        value = 10 * value + u64::from(*digit - b'0');
     }
-    Value::Number(v)
+    Some(value)
 }
 
 // A field, or a part of one behind blanks.
-pub fn field(part: &[u8]) -> Value
+#[tactic(auto, using(crate::proofs::FieldLaws::field_cases), unfolding(crate::specs::Inner::Writing::value_as))]
+pub fn field(part: &[u8]) -> Option<u64>
     requires { length part.now ≤ field_width }
     ensures { value_as result ≡ field_of part.now }
 {
-    if part.len() == 0 {
-        return Value::Bad;
+    match part {
+        [] => None,
+        [b' ', rest @ ..] => field(rest),
+        [b'0'] => Some(0),
+        [b'0', ..] => None,
+        _ => digits(part),
     }
-    if part[0] == b' ' {
-        return field(&part[1..]);
-    }
-    if part[0] == b'0' {
-        if part.len() == 1 {
-            return Value::Number(0);
-        }
-        return Value::Bad;
-    }
-    digits(part)
 }

@@ -1,4 +1,4 @@
-// Numbers and words written in columns. Each writer puts its bytes at a place and answers the place behind them.
+// Numbers and words written in columns, each behind what is written before it.
 #![tactic(auto)]
 
 ghost use Rattle.std.specs.Prelude.{◌≡◌, ◌∷◌, [], ◌+◌, ◌≤◌, length, replicate};
@@ -7,62 +7,82 @@ ghost use Rattle.columns.specs.Inner.Writing.{Wrote};
 
 pub mod fields;
 
-// One byte.
-pub fn put_byte(out: &mut [u8], at: usize, b: u8) -> usize
-    requires { at + 1 ≤ length out.old }
-    ensures value { result ≡ at + 1 }
-    ensures wrote { Wrote out.old at out.new result (b ∷ []) }
-{
-    out[at] = b;
-    at + 1
+// A text: the first bytes of a lent buffer, as many as are written.
+#[derive(Drop)]
+pub struct Text<'a> {
+    pub buffer: &'a mut [u8],
+    pub len: usize,
 }
 
-// A word as it is.
-pub fn put_word(out: &mut [u8], at: usize, word: &[u8]) -> usize
-    requires { at + length word.now ≤ length out.old }
-    ensures value { result ≡ at + length word.now }
-    ensures wrote { Wrote out.old at out.new result word.now }
-{
-    let end = at + word.len();
-    listings::copy(&mut out[at..end], word);
-    end
-}
-
-// Blanks, as many as asked for.
-fn put_blanks(out: &mut [u8], at: usize, count: usize) -> usize
-    requires { at + count ≤ length out.old }
-    ensures value { result ≡ at + count }
-    ensures wrote { Wrote out.old at out.new result (replicate count blank) }
-{
-    let end = at + count;
-    listings::fill_with(&mut out[at..end], b' ');
-    end
-}
-
-// A word, right-justified in width columns.
-pub fn put_justified(out: &mut [u8], at: usize, width: usize, word: &[u8]) -> usize
-    requires word_len_bound { length word.now ≤ width }
-    requires width_in_bounds { at + width ≤ length out.old }
-    ensures value { result ≡ at + width }
-    ensures wrote { Wrote out.old at out.new result (justified width word.now) }
-{
-    let from = put_blanks(out, at, width - word.len());
-    put_word(out, from, word)
-}
-
-// A number, right-justified in width columns: what stands before its last digit, and that digit.
-pub fn put_column(out: &mut [u8], at: usize, width: usize, n: u64) -> usize
-    requires { at + width ≤ length out.old }
-    ensures value { result ≡ at + width }
-    ensures wrote { Wrote out.old at out.new result (column width n) }
-{
-    if width == 0 {
-        return at;
+impl<'a> Text<'a> {
+    // Nothing is written.
+    pub fn new(buffer: &'a mut [u8]) -> Text<'a>
+        ensures len { result.len ≡ 0 }
+        ensures same_bytes { result.buffer.now ≡ buffer.old }
+        ensures same_buffer { result.buffer.ghost_name ≡ buffer.entry.ghost_name }
+    {
+        Text { buffer, len: 0 }
     }
-    if n < 10 {
-        let last = put_blanks(out, at, width - 1);
-        return put_byte(out, last, b'0' + n as u8);
+
+    // One byte.
+    pub fn put_byte(&mut self, b: u8)
+        requires { self.old.len + 1 ≤ length self.old.buffer.now }
+        ensures len { self.new.len ≡ self.old.len + 1 }
+        ensures wrote { Wrote self.old self.new (b ∷ []) }
+    {
+        self.buffer[self.len] = b;
+        self.len += 1;
     }
-    let last = put_column(out, at, width - 1, n / 10);
-    put_byte(out, last, b'0' + (n % 10) as u8)
+
+    // A word as it is.
+    pub fn put_word(&mut self, word: &[u8])
+        requires { self.old.len + length word.now ≤ length self.old.buffer.now }
+        ensures len { self.new.len ≡ self.old.len + length word.now }
+        ensures wrote { Wrote self.old self.new word.now }
+    {
+        let end = self.len + word.len();
+        self.buffer[self.len..end].copy_from_slice(word);
+        self.len = end;
+    }
+
+    // Blanks, as many as asked for.
+    fn put_blanks(&mut self, count: usize)
+        requires { self.old.len + count ≤ length self.old.buffer.now }
+        ensures len { self.new.len ≡ self.old.len + count }
+        ensures wrote { Wrote self.old self.new (replicate count blank) }
+    {
+        let end = self.len + count;
+        self.buffer[self.len..end].fill(b' ');
+        self.len = end;
+    }
+
+    // A word, right-justified in width columns.
+    #[tactic(auto, using(crate::proofs::Writes::then), unfolding(crate::specs::Columns::justified))]
+    pub fn put_justified(&mut self, width: usize, word: &[u8])
+        requires word_len_bound { length word.now ≤ width }
+        requires width_in_bounds { self.old.len + width ≤ length self.old.buffer.now }
+        ensures len { self.new.len ≡ self.old.len + width }
+        ensures wrote { Wrote self.old self.new (justified width word.now) }
+    {
+        self.put_blanks(width - word.len());
+        self.put_word(word);
+    }
+
+    // A number, right-justified in width columns: what stands before its last digit, and that digit.
+    pub fn put_column(&mut self, width: usize, n: u64)
+        requires { self.old.len + width ≤ length self.old.buffer.now }
+        ensures len { self.new.len ≡ self.old.len + width }
+        ensures wrote { Wrote self.old self.new (column width n) }
+    {
+        if width == 0 {
+            return;
+        }
+        if n < 10 {
+            self.put_blanks(width - 1);
+            self.put_byte(b'0' + n as u8);
+        } else {
+            self.put_column(width - 1, n / 10);
+            self.put_byte(b'0' + (n % 10) as u8);
+        }
+    }
 }

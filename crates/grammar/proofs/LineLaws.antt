@@ -1,32 +1,24 @@
 -- A line read field by field, what makes it malformed, and the counts that it hands on.
 -- Assumes nothing.
-use mathlib.Core.Path.{◌≡◌, refl, ap}
+use mathlib.Core.Path.{◌≡◌, refl, sym, ◌∙◌, ap}
 use mathlib.Core.Option.{Option, none, some, map}
 use mathlib.Core.List.{List, [], ◌∷◌, ◌++◌, append_assoc, append-nil}
 use mathlib.Core.Bool.{and-false}
 use Prim.Native.Nat.{ℕ, zero, suc, ◌+◌, ◌-◌, ◌*◌, ◌≤◌, ◌<◌, min}
 use native.Mathlib.Numerals.{add-one}
 use native.Mathlib.Omega.{arith}
-use lib.ListN.{length, get_or, take, drop, set}
-use lib.Seq.{drop-drop, take-suc-set}
+use lib.ListN.{length, get_or, take, drop, set, length-take}
+use lib.Seq.{drop-drop, take-take, take-suc-set, take_all}
 use borrow.Author.Tests.{eq-eqb, ne_eqb}
 use Rattle.listings.specs.Bytes.{Bytes}
 use Rattle.columns.specs.Columns.{newline}
-use Rattle.grammar.specs.declared.Head.{Head}
-use Rattle.grammar.specs.Grammar.{Slip, cons_field, fields, line, counts_on, second_line, handed_on, with_counts, slip_with}
+use Rattle.grammar.specs.Grammar.{cons_field, fields, line, second_line, handed_on}
 use Rattle.columns.specs.Fields.{field_width, field}
 use Rattle.grammar.specs.Sizes.{line_width}
-use Rattle.grammar.specs.Inner.Reading.{AtMost, Ends}
-use Rattle.grammar.specs.declared.Parsed.TheVariants.{Slip as Read, Malformed}
-use Rattle.grammar.specs.declared.lines.First.TheVariants.{Line, Malformed as Unreadable}
 
 -- counts in front of those that the rest of a line gives
 abbrev pub after : List ℕ → Option (List ℕ) → Option (List ℕ)
 after p o = map (λ (cs : List ℕ). p ++ cs) o
-
--- the field at a, as the code cuts it out
-pub field_at : (x : Bytes) (a : ℕ) → field (take (a + field_width - a) (drop a x)) ≡ field (take field_width (drop a x))
-field_at x a = let e : a + field_width - a ≡ field_width = omega arith in rw e
 
 next_field : (x : Bytes) (m i : ℕ) → i < m → fields (m - i) (drop (field_width * i) x) ≡ cons_field (field (take field_width (drop (field_width * i) x))) (fields (m - (i + 1)) (drop (field_width * (i + 1)) x))
 unfolding fields
@@ -76,6 +68,20 @@ pub line-fields : (m : ℕ) (x : Bytes) → length x ≡ line_width m → get_or
 unfolding line
 line-fields m x h k = rw (eq-eqb (length x) (line_width m) h, eq-eqb (get_or x (field_width * m) 0) newline k)
 
+-- the front without its first field
+shorter : (a n : ℕ) (x : Bytes) → a ≤ n → drop a (take n x) ≡ take (n - a) (drop a x)
+shorter zero n x h = let e : n - 0 ≡ n = omega arith in rw e
+shorter (suc a) zero x h = absurd (omega arith)
+shorter (suc a) (suc n) [] h = let e : suc n - suc a ≡ n - a = omega arith in rw (e, take_all {A = ℕ} (n - a) [] (omega arith))
+shorter (suc a) (suc n) (b ∷ x) h = let e : suc n - suc a ≡ n - a = omega arith in rw e (shorter a n x (omega arith))
+
+-- fields go by the front alone
+pub fields_front : (m n : ℕ) (x : Bytes) → field_width * m ≤ n → fields m (take n x) ≡ fields m x
+unfolding fields
+fields_front zero n x h = refl
+fields_front (suc m) n x h =
+    rw (take-take field_width n x (omega arith), shorter field_width n x (omega arith), fields_front m (n - field_width) (drop field_width x) (omega arith))
+
 -- no second line, and a second line
 pub line_absent : (m : ℕ) (x : Bytes) → m ≡ 0 → length x ≡ 0 → second_line m x ≡ some []
 unfolding second_line
@@ -90,21 +96,15 @@ unfolding second_line
 line_present zero x h = absurd (h refl)
 line_present (suc m) x h = refl
 
--- the second line's way to the slip
-pub by_line : (h : Head) (x : Bytes) {m : ℕ} {o : Option (List ℕ)} {r : Option Slip} → m ≡ counts_on h → second_line m x ≡ o → with_counts h (handed_on o) ≡ r → slip_with h x ≡ r
-unfolding slip_with
-by_line h x e p q = rw (← e, p) q
+-- the fields in front of its newline
+pub second_read : (m : ℕ) (x : Bytes) → 0 < m → length (take (length x - 1) x) ≡ field_width * m → get_or x (length x - 1) 0 ≡ newline → second_line m x ≡ fields m (take (length x - 1) x)
+second_read m x h l e =
+    let long : length x ≡ line_width m = omega (arith, length-take (length x - 1) x) in
+    let last : length x - 1 ≡ field_width * m = omega arith in
+    line_present m x (λ q. omega arith) ∙ line-fields m x long (rw (← last) e) ∙ sym (fields_front m (length x - 1) x (omega arith))
 
--- how many counts a slip has
-pub at_most : (h : Head) (m n : ℕ) → m ≤ n → AtMost (Read h m) n
-at_most h m n l g k e = let q : m ≡ k = cc in omega arith
+-- the counts one by one
+pub ruleset count_cases = (counts-none, counts_bad, counts-more, counts_all, take_all)
 
-pub at_most_malformed : (n : ℕ) → AtMost Malformed n
-at_most_malformed n g k e = let z : ◌≡◌ {A = ℕ} 0 1 = cc in absurd (omega arith)
-
--- where a first line ends
-pub ends_at : (s end : ℕ) (x : Bytes) → line_width 3 ≤ end → end ≤ length x → Ends (Line s end) x
-ends_at s end x h k t u e = let q : end ≡ u = cc in (omega arith, omega arith)
-
-pub ends_nowhere : (x : Bytes) → Ends Unreadable x
-ends_nowhere x t u e = let z : ◌≡◌ {A = ℕ} 0 1 = cc in absurd (omega arith)
+-- the second line
+pub ruleset line_cases = (line_absent, line_unasked, line_present, second_read, line-width, line_end)

@@ -4,35 +4,22 @@ use mathlib.Core.Path.{◌≡◌, refl, sym, ◌∙◌, ap}
 use mathlib.Core.Bool.{Bool, true, false, ◌&&◌, cond}
 use mathlib.Core.Option.{Option, none, some, some-injective, none-ne-some}
 use mathlib.Core.List.{List, [], ◌∷◌}
-use Prim.Native.Nat.{ℕ, zero, suc, ◌-◌, ◌*◌, ◌≤◌, ◌<◌}
+use Prim.Native.Nat.{ℕ, ◌-◌, ◌*◌, ◌≤◌, ◌<◌}
 use native.Mathlib.Decide.{dec_le}
 use native.Mathlib.Omega.{arith}
 use lib.Dec.{eqb}
 use lib.ListN.{length, get_or, take, drop, length-take}
-use lib.Seq.{take_all, take-take, drop-drop, get_or-take, length-take-le}
+use lib.Seq.{drop-drop, get_or-take, length-take-le}
 use borrow.Author.Tests.{le-leb, lt-leb, eq-eqb, ne_eqb}
 use Rattle.listings.specs.Bytes.{Bytes}
 use Rattle.columns.specs.Columns.{newline}
 use Rattle.columns.specs.Fields.{field_width, digits, field}
+use Rattle.columns.proofs.FieldLaws.{rest_is}
 use Rattle.grammar.specs.declared.Head.{Head}
 use Rattle.grammar.specs.Grammar.{Slip, cons_field, fields, line, fields_on, start_of, head_of, counts_on, second_line, handed_on, with_counts, slip_with, slip_from, slip_of}
 use Rattle.grammar.specs.Sizes.{family_width, line_width}
 use Rattle.grammar.specs.Inner.Reading.{slip_at}
-use Rattle.grammar.proofs.LineLaws.{line-width, line_end, line-fields}
-
--- the front without its first field
-shorter : (a n : ℕ) (x : Bytes) → a ≤ n → drop a (take n x) ≡ take (n - a) (drop a x)
-shorter zero n x h = let e : n - 0 ≡ n = omega arith in rw e
-shorter (suc a) zero x h = absurd (omega arith)
-shorter (suc a) (suc n) [] h = let e : suc n - suc a ≡ n - a = omega arith in rw (e, take_all {A = ℕ} (n - a) [] (omega arith))
-shorter (suc a) (suc n) (b ∷ x) h = let e : suc n - suc a ≡ n - a = omega arith in rw e (shorter a n x (omega arith))
-
--- fields go by the front alone
-pub fields_front : (m n : ℕ) (x : Bytes) → field_width * m ≤ n → fields m (take n x) ≡ fields m x
-unfolding fields
-fields_front zero n x h = refl
-fields_front (suc m) n x h =
-    rw (take-take field_width n x (omega arith), shorter field_width n x (omega arith), fields_front m (n - field_width) (drop field_width x) (omega arith))
+use Rattle.grammar.proofs.LineLaws.{fields_front, line-width, line_end, line-fields}
 
 -- by a test: what holds both ways
 either : {A : Type 0} (P : A → Type 0) (b : Bool) {s t : A} → P s → P t → P (cond b s t)
@@ -146,6 +133,40 @@ from_bad (some u) none c y = refl
 from_bad (some u) (some v) none y = refl
 from_bad (some u) (some v) (some w) y = refl
 
+-- a first line with a field that is no number, and one of three numbers
+module _ (x y : Bytes) where
+  pub no_kind : (s : ℕ) → said x 0 ≡ none → slip_at s (fields 3 x) y ≡ none
+  unfolding slip_at cons_field
+  no_kind s e = rw (fields_three x e refl refl)
+
+  pub no_n : (s : ℕ) → said x 1 ≡ none → slip_at s (fields 3 x) y ≡ none
+  unfolding slip_at cons_field
+  no_n s e = rw (fields_three x refl e refl) (second_bad (said x 0))
+    where
+      second_bad : (o : Option ℕ) → slip_at s (cons_field o (cons_field none (cons_field (said x 2) (some [])))) y ≡ none
+      second_bad none = refl
+      second_bad (some u) = refl
+
+  pub no_k : (s : ℕ) → said x 2 ≡ none → slip_at s (fields 3 x) y ≡ none
+  unfolding slip_at cons_field
+  no_k s e = rw (fields_three x refl refl e) (third_bad (said x 0) (said x 1))
+    where
+      third_bad : (o p : Option ℕ) → slip_at s (cons_field o (cons_field p (cons_field none (some [])))) y ≡ none
+      third_bad none p = refl
+      third_bad (some u) none = refl
+      third_bad (some u) (some v) = refl
+
+  three_numbers : (h : Head) → said x 0 ≡ some h.kind → said x 1 ≡ some h.n → said x 2 ≡ some h.k → slip_at h.start (fields 3 x) y ≡ slip_with h y
+  unfolding slip_at cons_field head_of
+  three_numbers h p q r = rw (fields_three x p q r)
+
+-- the slip of three numbers, by the counts that are read behind the first line
+pub slip_read : (x : Bytes) (end : ℕ) (h : Head) {o : Option (List ℕ)} → slip_of x ≡ slip_at h.start (fields 3 x) (drop end x)
+    → said x 0 ≡ some h.kind → said x 1 ≡ some h.n → said x 2 ≡ some h.k
+    → handed_on (second_line (counts_on h) (take (length x - end) (drop end x))) ≡ o → slip_of x ≡ with_counts h o
+unfolding slip_with
+slip_read x end h e p q r c = e ∙ three_numbers x (drop end x) h p q r ∙ ap (with_counts h) (rw (← rest_is x end) c)
+
 -- a slip of three fields
 pub slip_three : (x : Bytes) → family_width < length x → get_or x family_width 0 ≡ newline → slip_of x ≡ slip_at 1 (fields 3 x) (drop (line_width 3) x)
 slip_three x h k =
@@ -189,3 +210,9 @@ pub slip_start : (s : ℕ) (o : Option (List ℕ)) (x : Bytes) {r : Slip} → sl
 unfolding slip_at slip_with head_of
 slip_start s none x {r} e = absurd (none-ne-some r e)
 slip_start s (some vs) x e = ap (λ (h : Head). h.start) (with_head (head_of s vs) (handed_on (second_line (counts_on (head_of s vs)) x)) e)
+
+-- a slip by its first line
+pub ruleset first_line_cases = (four_on, slip_too_short, slip_short, slip_open, slip_three, slip_four, slip_bad, slip_other)
+
+-- and by its first three fields
+pub ruleset slip_cases = (no_kind, no_n, no_k)

@@ -1,18 +1,17 @@
 // The slip's grammar, proved: the numbers of the first line, and for kind 2 the counts of the second.
 #![tactic(auto)]
 
-ghost use Rattle.std.specs.Prelude.{◌≡◌, ◌≤◌, length};
+ghost use Rattle.std.specs.Prelude.{◌≡◌, ◌≤◌, length, IfSome};
 ghost use Rattle.grammar.specs.Grammar.{slip_of};
-ghost use Rattle.grammar.specs.Inner.Reading.{parsed_as, AtMost};
+ghost use Rattle.grammar.specs.Inner.Reading.{parsed_as};
 ghost use Rattle.grammar.specs.Sizes.{most_counts};
 
 mod counts;
 mod limits;
 mod lines;
 
-use columns::fields::Value;
 pub use limits::{FAMILY_WIDTH, LONGEST_SLIP, MOST_COUNTS};
-use lines::{First, number_at};
+use lines::number_at;
 
 // The numbers of a slip's first line; start is the number that the first object gets, 0 or 1.
 #[derive(Clone, Copy)]
@@ -23,31 +22,27 @@ pub struct Head {
     pub start: u8,
 }
 
-// A well-formed slip: its numbers, and how many counts stand in the buffer; or a malformed one.
+// A well-formed slip: its numbers, and its counts in the buffer that was lent for them.
 #[derive(Clone, Copy)]
-pub enum Parsed {
-    Slip(Head, usize),
-    Malformed,
+pub struct Slip<'a> {
+    pub head: Head,
+    pub counts: &'a [u8],
 }
 
-// Reads a slip, with its counts into a buffer that has room for the longest second line.
-pub fn parse(input: &[u8], counts: &mut [u8]) -> Parsed
+// Reads a slip, with its counts into a buffer that has room for the longest second line; nothing where it is malformed.
+#[tactic(auto, using(crate::proofs::SlipLaws::slip_cases), unfolding(columns::specs::Inner::Writing::value_as, crate::specs::Inner::Reading::opened_as, crate::specs::Inner::Reading::parsed_as))]
+pub fn parse<'a>(input: &[u8], counts: &'a mut [u8]) -> Option<Slip<'a>>
     requires { most_counts ≤ length counts.old }
-    ensures at_most { AtMost result most_counts }
-    ensures input_value { slip_of input.now ≡ parsed_as result counts.new }
+    ensures at_most { IfSome result (λ s. length s.counts.now ≤ most_counts) }
+    ensures input_value { slip_of input.now ≡ parsed_as result }
 {
-    let First::Line(start, end) = lines::first_line(input) else {
-        return Parsed::Malformed;
+    let line = lines::first_line(input)?;
+    let head = Head {
+        kind: number_at(input, 0)?,
+        n: number_at(input, 1)?,
+        k: number_at(input, 2)?,
+        start: line.start,
     };
-    let Value::Number(kind) = number_at(input, 0) else {
-        return Parsed::Malformed;
-    };
-    let Value::Number(n) = number_at(input, 1) else {
-        return Parsed::Malformed;
-    };
-    let Value::Number(k) = number_at(input, 2) else {
-        return Parsed::Malformed;
-    };
-    let head = Head { kind, n, k, start };
-    counts::second_line(&input[end..], head, counts)
+    let counts = counts::second_line(&input[line.end..], head, counts)?;
+    Some(Slip { head, counts })
 }

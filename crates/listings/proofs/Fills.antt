@@ -7,7 +7,7 @@ use native.Mathlib.Nat.{add-zero, zero-add, add-suc, suc-add}
 use native.Mathlib.Numerals.{add-one}
 use native.Mathlib.Omega.{arith}
 use lib.Seq.{get_or-append_seam, get_or-append-add}
-use lib.ListN.{length, get_or, set, drop, replicate, length-map, length-append, length-drop, drop_of_length-le}
+use lib.ListN.{length, get_or, set, drop, length-map, length-append, length-drop, drop_of_length-le}
 use Rattle.basics.specs.Sums.{range}
 use Rattle.basics.proofs.Ranges.{length-range}
 use Rattle.basics.proofs.Lists.{head-drop}
@@ -40,23 +40,6 @@ length-filled g i d h = simp (length-append, length-map, length-range, length-dr
 
 pub fill_all : (g : ℕ → ℕ) (i : ℕ) (d : List ℕ) → i ≡ length d → filled g i d ≡ map g (range 0 (length d))
 fill_all g i d e = rw (e, drop_of_length-le d {i = length d} (omega arith), append-nil)
-
--- numbers one after the other, and one number again and again
-from_up : (a b n : ℕ) → map (λ i. a + i) (range b n) ≡ range (a + b) n
-unfolding range
-from_up a b zero = refl
-from_up a b (suc n) = rw (from_up a (suc b) n, add-suc)
-
-pub counting_up : (a n : ℕ) → map (λ i. a + i) (range 0 n) ≡ range a n
-counting_up a n = from_up a 0 n ∙ ap (λ (i : ℕ). range i n) (add-zero a)
-
-again : (v b n : ℕ) → map (λ i. v) (range b n) ≡ replicate n v
-unfolding range
-again v b zero = refl
-again v b (suc n) = ap (λ (l : List ℕ). v ∷ l) (again v (suc b) n)
-
-pub repeating : (v n : ℕ) → map (λ i. v) (range 0 n) ≡ replicate n v
-repeating v n = again v 0 n
 
 reads_from : (p l : List ℕ) → map (λ i. get_or (p ++ l) i 0) (range (length p) (length l)) ≡ l
 unfolding range

@@ -1,10 +1,6 @@
--- The loop's invariant: the sum and the bytes that are left make the total.
-use Rattle.std.proofs.Common.{length, ◌-◌, ◌≡◌, ◌+◌, ◌≤◌, drop}
-use Rattle.basics.specs.Sums.{total}
+-- The loop's invariant: the sum of the bytes so far, which is within the limit.
+use Rattle.std.proofs.Common.{◌≡◌, ◌≤◌, sum, take}
 use Rattle.basics.proofs.sum_to_limit.Given as goal
 
-abbrev pub invariant-loop-i : goal.invariant-loop-i
-invariant-loop-i l = (l.i ≤ length l.bytes) × (l.s ≤ l.limit) × (l.s + total (drop l.i l.bytes) ≡ total l.bytes)
-
-abbrev pub decreases-loop-i : goal.decreases-loop-i
-decreases-loop-i l = length l.bytes - l.i
+abbrev pub invariant-loop-b : goal.invariant-loop-b
+invariant-loop-b l = (l.sum ≤ l.limit) × (l.sum ≡ sum (take l.b-index l.bytes))
