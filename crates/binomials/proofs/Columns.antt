@@ -4,7 +4,7 @@ use Rattle.std.proofs.Common.{◌≡◌, ℕ, ◌-◌, ◌^◌, ◌<◌, ◌≤�
 use borrow.Author.Tests.{lt-leb}
 use Rattle.basics.specs.Limits.{places}
 use Rattle.numbers.specs.Numbers.{choose}
-use Rattle.binomials.specs.Inner.Factorials.{last_columns}
+use Rattle.binomials.specs.declared.factorials.TheConstants.{LAST_COLUMNS}
 use Rattle.binomials.proofs.Tested.{within, made_of_lem}
 
 module _ (n k : ℕ) (h : n ≤ places) (b : k ≤ n) where
@@ -15,10 +15,10 @@ module _ (n k : ℕ) (h : n ≤ places) (b : k ≤ n) where
   unfolding within
   early l = said (rw (lt-ltb n 68))
 
-  pub on_the_left : {last : ℕ} → 68 ≤ n → last ≡ get_or last_columns (n - 68) 0 → k ≤ last → true ≡ ltb (choose n k) (2 ^ 64)
+  pub on_the_left : {last : ℕ} → 68 ≤ n → last ≡ get_or LAST_COLUMNS (n - 68) 0 → k ≤ last → leb k last ≡ ltb (choose n k) (2 ^ 64)
   unfolding within
-  on_the_left l e i = said (rw (le-ltb n 68, ← e, le-leb k _))
+  on_the_left {last} l e i = rw (le-leb k last i) (said (rw (le-ltb n 68, ← e, le-leb k last)))
 
-  pub on_the_right : {last : ℕ} → 68 ≤ n → last ≡ get_or last_columns (n - 68) 0 → last < k → leb (n - k) last ≡ ltb (choose n k) (2 ^ 64)
+  pub on_the_right : {last : ℕ} → 68 ≤ n → last ≡ get_or LAST_COLUMNS (n - 68) 0 → last < k → leb (n - k) last ≡ ltb (choose n k) (2 ^ 64)
   unfolding within
   on_the_right l e i = said (rw (le-ltb n 68, ← e, lt-leb k _))

@@ -10,7 +10,7 @@ use borrow.Author.Tests.{eqb-true, eq-eqb, leb-true, le-leb, ltb-true, lt-ltb, l
 use Rattle.basics.specs.Limits.{places}
 use Rattle.basics.specs.Sums.{range}
 use Rattle.numbers.specs.Numbers.{parts_from, partitions_of}
-use Rattle.partition_numbers.specs.Inner.Words.{words}
+use Rattle.partition_numbers.specs.declared.words.TheConstants.{WORDS}
 use Rattle.partition_numbers.proofs.Columns.{column, grow, holds, tests, every}
 
 -- where the number at e of column j stands, 161 too far
@@ -19,7 +19,7 @@ spot e j = j / 2 * (83 - j) + e
 
 -- the number at a place: three in one word
 abbrev pub number : ℕ → ℕ
-number at = get_or words (at % 256) 0 / 2 ^ (21 * (at / 256)) % 2097152
+number at = get_or WORDS (at % 256) 0 / 2 ^ (21 * (at / 256)) % 2097152
 
 -- what is stored, as `stored` requires it
 abbrev pub Stored : ℕ → ℕ → Type 0

@@ -9,22 +9,22 @@ ghost use Rattle.numbers.specs.Numbers.{parts_from, partitions_of};
 
 mod words;
 
-use words::word;
+use words::WORDS;
+
+// As many bits as a stored number has in its word.
+const BITS: usize = 21;
 
 // The even column, at most e + 1, that has the number at e of the column j. It is 0 only where e is 0, which the last of the bounds says.
 fn narrowed(e: u64, j: u64) -> u64
     requires { (j % 2 ≡ 0) × ((0 < j) × (e + j ≤ places + 1)) }
-    ensures result_value { (result % 2 ≡ 0) × ((result ≤ e + 1) × ((e + result ≤ places + 1) × (e ≤ (places + 1) * result))) }
-    ensures result_value_2 { partitions_of (e + result) result ≡ partitions_of (e + j) j }
+    ensures place { (result % 2 ≡ 0) × ((result ≤ e + 1) × ((e + result ≤ places + 1) × (e ≤ (places + 1) * result))) }
+    ensures number { partitions_of (e + result) result ≡ partitions_of (e + j) j }
 {
-    if e < j {
-        return e + e % 2;
-    }
-    j
+    j.min(e + e % 2)
 }
 
-// The number at e of an even column, at most e + 1. Column 2 is worked out; the others stand one after the other, and a word has the numbers of three places, 256
-// apart, in 21 bits each.
+// The number at e of an even column, at most e + 1. Column 2 is worked out; the others stand one after the other, and a word has the numbers of three
+// places, as many apart as there are words.
 fn stored(e: u64, j: u64) -> u64
     requires { (j % 2 ≡ 0) × ((j ≤ e + 1) × ((e + j ≤ places + 1) × (e ≤ (places + 1) * j))) }
     ensures { result ≡ partitions_of (e + j) j }
@@ -32,8 +32,8 @@ fn stored(e: u64, j: u64) -> u64
     if j < 4 {
         return e / 2 + 1;
     }
-    let at = j / 2 * (83 - j) + e - 161;
-    (word(at % 256) >> (21 * (at / 256))) % 2097152
+    let at = (j / 2 * (83 - j) + e - 161) as usize;
+    (WORDS[at % WORDS.len()] >> (BITS * (at / WORDS.len()))) % (1 << BITS)
 }
 
 // The number at e of an even column.
@@ -61,10 +61,7 @@ fn partitions(n: u64, k: u64) -> u64
         return v - column(e - (k + 1), k + 1);
     }
     if k == 0 {
-        if n == 0 {
-            return 1;
-        }
-        return 0;
+        return u64::from(n == 0);
     }
     column(e, k)
 }

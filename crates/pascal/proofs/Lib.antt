@@ -1,4 +1,3 @@
--- Stores in a list, the window before a place of a row, and the table against the addition rule.
-pub mod Stores
+-- The window before a place of a row, and the table against the addition rule.
 pub mod Tested
 pub mod Windows

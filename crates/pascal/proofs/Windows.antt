@@ -2,12 +2,13 @@
 -- Assumes nothing.
 use mathlib.Core.Path.{◌≡◌, refl, sym, ◌∙◌, ap}
 use mathlib.Core.List.{List}
-use Prim.Native.Nat.{ℕ, zero, suc, ◌+◌, ◌-◌, ◌≤◌, ◌<◌}
+use Prim.Native.Nat.{ℕ, zero, suc, ◌+◌, ◌-◌, ◌≤◌, ◌<◌, ◌^◌}
 use native.Mathlib.Nat.{add-zero, add-suc, suc-add, le_trans}
 use native.Mathlib.Omega.{arith}
-use lib.ListN.{get_or}
+use lib.ListN.{length, get_or}
 use Rattle.numbers.specs.Numbers.{choose}
-use Rattle.pascal.specs.Inner.Window.{back}
+use Rattle.pascal.specs.Inner.Triangle.{last_row}
+use Rattle.pascal.specs.Inner.Window.{width, back, Added}
 use Rattle.numbers.proofs.Binomials.{choose_mono}
 
 -- a row up: an entry and its right neighbour in the window
@@ -43,3 +44,29 @@ back-le n k (suc i) = rw (add-suc, sym (suc-add n i)) (le_trans (omega (arith, b
 
 pub back_below : (m n k i : ℕ) → m + i ≤ n → back m k i ≤ choose n k
 back_below m n k i h = le_trans (back-le m k i) (choose_mono k h)
+
+-- w has the window of a row from which `left` more rows lead to row n
+pub record Reached (n k : ℕ) (w : List ℕ) (left : ℕ) : Type 0 where
+  pub row : ℕ
+  pub from : last_row ≤ row
+  pub up_to : row + left ≡ n
+  pub long : length w ≡ width
+  pub entries : (i : ℕ) → i ≤ left → get_or w i 0 ≡ back row k i
+
+pub row_more : {n k left : ℕ} {d e : List ℕ} → Reached n k d left → 0 < left → Added d (left - 1 + 1) e → Reached n k e (left - 1)
+row_more {k = k} {left = left} {d = d} c some added =
+    record {
+      row = suc c.row;
+      from = omega arith;
+      up_to = omega arith;
+      long = added.same ∙ c.long;
+      entries = λ i h. added.sums i (omega arith) ∙ window_up c.row k left d c.entries i (omega arith);
+    }
+
+-- each sum is part of the entry that is worked out
+pub sums_fit : {n k left : ℕ} {d : List ℕ} → Reached n k d left → choose n k < 2 ^ 64 → (i : ℕ) → i < left → get_or d i 0 + get_or d (suc i) 0 < 2 ^ 64
+sums_fit {n} {k} {left} {d} c fits i lt = omega (arith, window_up c.row k left d c.entries i lt, back_below (suc c.row) n k i (omega arith))
+
+pub entry_reached : {n k left : ℕ} {w : List ℕ} → Reached n k w left → left ≤ 0 → get_or w 0 0 ≡ choose n k
+unfolding back
+entry_reached {k = k} c end = c.entries 0 (omega arith) ∙ ap (λ r. choose r k) (omega arith)

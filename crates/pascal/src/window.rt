@@ -2,43 +2,15 @@
 ghost use Rattle.std.specs.Prelude.{◌≡◌, ℕ, suc, ◌+◌, ◌≤◌, ◌<◌, ◌^◌, length, get_or};
 ghost use Rattle.basics.specs.Limits.{places};
 ghost use Rattle.numbers.specs.Numbers.{choose};
-ghost use Rattle.pascal.specs.Inner.Triangle.{last_row, Triangle};
+ghost use Rattle.pascal.specs.Inner.Triangle.{last_row};
 ghost use Rattle.pascal.specs.Inner.Window.{width, back, Added};
 
-use crate::{LAST_ROW, lent};
+use crate::LAST_ROW;
+use crate::lent::Rows;
 use basics::PLACES;
 
 // As many entries as the last of these rows is worked out from: one more for each row.
 const WIDTH: usize = (PLACES - LAST_ROW) as usize + 1;
-
-// The entry of the last row that lies i places before k, and 0 before the row's first.
-fn before_place(table: &[u64; 2346], k: u64, i: u64) -> u64
-    requires { Triangle table.now }
-    ensures { result ≡ back last_row k i }
-{
-    if k < i {
-        return 0;
-    }
-    let at = k - i;
-    if LAST_ROW < at {
-        return 0;
-    }
-    lent::entry(table, LAST_ROW, at)
-}
-
-// The part of the last row that an entry k of the rows above is worked out from: the entry k and those in front of it.
-fn last_row(table: &[u64; 2346], k: u64) -> [u64; WIDTH]
-    requires { Triangle table.now }
-    ensures { (i : ℕ) → i < width → get_or result i 0 ≡ back last_row k i }
-{
-    let mut w = [0u64; WIDTH];
-    let mut i: usize = 0;
-    while i < WIDTH {
-        w[i] = before_place(table, k, i as u64);
-        i += 1;
-    }
-    w
-}
 
 // Adds to each of the first m entries its right neighbour.
 fn add_neighbours(w: &mut [u64], m: usize)
@@ -46,24 +18,45 @@ fn add_neighbours(w: &mut [u64], m: usize)
     requires by_index { (i : ℕ) → i < m → get_or w.old i 0 + get_or w.old (suc i) 0 < 2 ^ 64 }
     ensures { Added w.old m w.new }
 {
-    let mut i = 0;
-    while i < m {
-        w[i] = w[i] + w[i + 1];
-        i += 1;
+    for i in 0..m {
+        w[i] += w[i + 1];
     }
 }
 
-// The entry k of row n, a row up at each turn.
-pub fn climb(table: &[u64; 2346], n: u64, k: u64) -> u64
-    requires triangle { Triangle table.now }
-    requires last_row_le_n { (last_row ≤ n) × ((n ≤ places) × (choose n k < 2 ^ 64)) }
-    ensures { result ≡ choose n k }
-{
-    let mut w = last_row(table, k);
-    let mut left = (n - LAST_ROW) as usize;
-    while 0 < left {
-        add_neighbours(&mut w, left);
-        left -= 1;
+impl Rows<'_> {
+    // The entry of the last row that lies i places before k, and 0 before the row's first.
+    fn before_place(self, k: u64, i: u64) -> u64
+        ensures { result ≡ back last_row k i }
+    {
+        let Some(at) = k.checked_sub(i) else {
+            return 0;
+        };
+        if LAST_ROW < at {
+            return 0;
+        }
+        self.entry(LAST_ROW, at)
     }
-    w[0]
+
+    // The part of the last row that an entry k of the rows above is worked out from: the entry k and those in front of it.
+    fn last_row(self, k: u64) -> [u64; WIDTH]
+        ensures { (i : ℕ) → i < width → get_or result i 0 ≡ back last_row k i }
+    {
+        let mut w = [0u64; WIDTH];
+        for (i, entry) in w.iter_mut().enumerate() {
+            *entry = self.before_place(k, i as u64);
+        }
+        w
+    }
+
+    // The entry k of row n, a row up at each turn.
+    pub fn climb(self, n: u64, k: u64) -> u64
+        requires { (last_row ≤ n) × ((n ≤ places) × (choose n k < 2 ^ 64)) }
+        ensures { result ≡ choose n k }
+    {
+        let mut w = self.last_row(k);
+        for left in (0..(n - LAST_ROW) as usize).rev() {
+            add_neighbours(&mut w, left + 1);
+        }
+        w[0]
+    }
 }

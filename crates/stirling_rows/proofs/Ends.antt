@@ -1,12 +1,11 @@
--- The numbers at the ends of a row, and that the place of a stored number is small.
+-- The numbers at the ends of a row.
 -- Assumes nothing.
 use mathlib.Core.Path.{◌≡◌, sym, ap}
-use Prim.Native.Nat.{ℕ, zero, suc, ◌*◌, ◌-◌, ◌/◌, ◌≤◌, ◌<◌}
-use native.Mathlib.Nat.{mul-le-mul, mul-suc, suc-mul, mul-one}
+use Prim.Native.Nat.{ℕ, zero, suc, ◌*◌, ◌-◌, ◌/◌, ◌<◌}
+use native.Mathlib.Nat.{mul-suc, suc-mul, mul-one}
 use native.Mathlib.Omega.{arith}
 use Rattle.numbers.specs.Numbers.{stirling_of}
 use Rattle.numbers.proofs.Stirlings.{stirling_rule, stirling_all, stirling_zero, stirling_one}
-use Rattle.stirling_rows.specs.Inner.Stored.{last_row}
 
 pub short : (n k : ℕ) → k < 2 → k < n → k ≡ stirling_of n k
 short n zero few fewer = sym (stirling_zero n (omega arith))
@@ -26,16 +25,3 @@ all_but_one zero h = absurd (omega arith)
 all_but_one (suc n) h =
     let back : suc n - 1 ≡ n = omega arith in
     rw back (omega (arith, twice n))
-
--- nothing on the way is large
-
-pub few_pairs : (n : ℕ) → n ≤ last_row → n * (n - 1) ≤ 26 * 25
-few_pairs n h =
-    let a : n - 1 ≤ 25 = omega arith in
-    mul-le-mul h a
-
-pub few_places : (n : ℕ) → n ≤ last_row → (n - 2) * (n - 3) ≤ 24 * 23
-few_places n h =
-    let a : n - 2 ≤ 24 = omega arith in
-    let b : n - 3 ≤ 23 = omega arith in
-    mul-le-mul a b

@@ -16,7 +16,7 @@ use Rattle.numbers.proofs.Triangles.{row}
 use Rattle.numbers.proofs.Weighted.{step}
 use Rattle.numbers.proofs.WeightedTests.{holds, tests, every}
 use Rattle.stirling_rows.specs.Inner.Stored.{last_row}
-use Rattle.stirling_rows.specs.Inner.Literals.{numbers}
+use Rattle.stirling_rows.specs.declared.literals.TheConstants.{NUMBERS}
 
 -- where the number of n models in k blocks stands, as `entry` works it out
 abbrev pub place : ℕ → ℕ → ℕ
@@ -28,7 +28,7 @@ pick true b = b
 pick false b = true
 
 unfoldable right : ℕ → ℕ → ℕ → Bool
-right n k c = pick (leb 2 k && ltb k n) (eqb (get_or numbers (place n k) 0) c)
+right n k c = pick (leb 2 k && ltb k n) (eqb (get_or NUMBERS (place n k) 0) c)
 
 tested : tests (λ k. k) right (suc last_row) 0 (1 ∷ []) ≡ true
 unfolding tests holds right step
@@ -43,6 +43,6 @@ held n k h b =
     ap (λ (i : ℕ). right i k (stirling_of i k)) (sym (zero-add n))
     ∙ every (λ k. k) stirling_of stirling_weighted right (suc last_row) 0 (ap (tests (λ k. k) right (suc last_row) 0) start ∙ tested) n k (omega arith) (omega arith)
 
-pub there : (n k : ℕ) → n ≤ last_row → 2 ≤ k → k < n → get_or numbers (place n k) 0 ≡ stirling_of n k
+pub there : (n k : ℕ) → n ≤ last_row → 2 ≤ k → k < n → get_or NUMBERS (place n k) 0 ≡ stirling_of n k
 unfolding right
 there n k h some fewer = eqb-true _ _ (rw (le-leb 2 k some, lt-ltb k n fewer) at (held n k h (omega arith)))

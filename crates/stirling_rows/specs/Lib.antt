@@ -1,2 +1,2 @@
--- The numbers that the small Stirling numbers are read from.
+-- How far the small Stirling numbers are stored.
 pub mod Inner

@@ -2,16 +2,25 @@
 // partition reads a few of them, and working out all of them costs more.
 #![tactic(auto)]
 
-ghost use Rattle.std.specs.Prelude.{◌≡◌, ◌-◌, ◌≤◌, ◌<◌};
+ghost use Rattle.std.specs.Prelude.{◌≡◌, ◌+◌, ◌-◌, ◌*◌, ◌/◌, ◌≤◌, ◌<◌};
 ghost use Rattle.numbers.specs.Numbers.{stirling_of};
 ghost use Rattle.stirling_rows.specs.Inner.Stored.{last_row};
 
-mod inner;
+mod literals;
 
-use inner::number;
+use literals::NUMBERS;
 
 // The last row whose every number is below 2^64.
 pub const LAST_ROW: u64 = 26;
+
+// Where the number of n models in k blocks stands: rows 3 and on are stored, each without its ends.
+fn place(n: u64, k: u64) -> usize
+    requires { (n ≤ last_row) × ((2 ≤ k) × (k < n)) }
+    ensures value { result ≡ (n - 2) * (n - 3) / 2 + k - 2 }
+    ensures bound { result < 300 }
+{
+    ((n - 2) * (n - 3) / 2 + k - 2) as usize
+}
 
 // The number of partitions of n models into k blocks. The ends of a row are known.
 pub fn entry(n: u64, k: u64) -> u64
@@ -27,27 +36,38 @@ pub fn entry(n: u64, k: u64) -> u64
     if k < 2 {
         return k;
     }
-    number((n - 2) * (n - 3) / 2 + k - 2)
+    NUMBERS[place(n, k)]
 }
 
-// The numbers of partitions of n models into k - 1 blocks and into k.
+// The numbers of partitions of n models into one block fewer and into the same number of blocks.
 #[derive(Clone, Copy)]
-pub struct Pair(pub u64, pub u64);
+pub struct Pair {
+    pub fewer: u64,
+    pub same: u64,
+}
 
 // What a rank reads of one model more: both numbers at once, the place worked out once. All but one block: two of the models share one.
 pub fn both(n: u64, k: u64) -> Pair
     requires { (n ≤ last_row) × ((0 < k) × (k ≤ n)) }
-    ensures { (result.0 ≡ stirling_of n (k - 1)) × (result.1 ≡ stirling_of n k) }
+    ensures fewer { result.fewer ≡ stirling_of n (k - 1) }
+    ensures same { result.same ≡ stirling_of n k }
 {
     if k == 1 {
-        return Pair(0, 1);
+        return Pair { fewer: 0, same: 1 };
     }
     if k == n {
-        return Pair(n * (n - 1) / 2, 1);
+        return Pair {
+            fewer: n * (n - 1) / 2,
+            same: 1,
+        };
     }
-    let at = (n - 2) * (n - 3) / 2 + k - 2;
+    let at = place(n, k);
+    let same = NUMBERS[at];
     if k == 2 {
-        return Pair(1, number(at));
+        return Pair { fewer: 1, same };
     }
-    Pair(number(at - 1), number(at))
+    Pair {
+        fewer: NUMBERS[at - 1],
+        same,
+    }
 }

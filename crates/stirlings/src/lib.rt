@@ -2,10 +2,10 @@
 // number that the ranks of one family read; one number alone takes one row.
 #![tactic(auto)]
 
-ghost use Rattle.std.specs.Prelude.{◌≡◌, ℕ, suc, ◌+◌, ◌-◌, ◌*◌, ◌≤◌, ◌<◌, ◌^◌, ltb};
+ghost use Rattle.std.specs.Prelude.{◌≡◌, ℕ, suc, ◌+◌, ◌-◌, ◌*◌, ◌≤◌, ◌<◌, ◌^◌, ◌⊎◌, ltb, length, get_or};
 ghost use Rattle.basics.specs.Limits.{places};
 ghost use Rattle.numbers.specs.Numbers.{stirling_of};
-ghost use Rattle.stirlings.specs.Inner.Band.{capacity, Filled, LastColumn, Row};
+ghost use Rattle.stirlings.specs.Inner.Band.{Filled, Stands};
 
 use basics::PLACES;
 use stirling_rows::{LAST_ROW, entry};
@@ -19,64 +19,40 @@ pub const CAPACITY: usize = (PLACES as usize - BLOCKS + 1) * (BLOCKS + 1);
 // As many numbers as a row has.
 const COLUMNS: usize = PLACES as usize + 1;
 
-// The last k for which S(k + d, k) is below 2^64, or a larger one where all with k + d within the places are. Read off the computed triangle; the
+// By d: the last k for which S(k + d, k) is below 2^64, or a larger one where all with k + d within the places are. Read off the computed triangle; the
 // proof tests every number of it.
-fn last_column(d: u64) -> u64
-    ensures { LastColumn d result }
-{
-    match d {
-        0..=6 => PLACES,
-        7 => 59,
-        8 => 41,
-        9 => 30,
-        10 => 24,
-        11 => 19,
-        12 => 16,
-        13 => 14,
-        14 => 12,
-        15 => 11,
-        16 => 10,
-        17 => 9,
-        18 => 8,
-        19..=20 => 7,
-        21..=22 => 6,
-        23..=25 => 5,
-        26..=30 => 4,
-        31..=39 => 3,
-        40..=63 => 2,
-        _ => 1,
-    }
-}
+static LAST_COLUMNS: [u64; COLUMNS] = [
+    80, 80, 80, 80, 80, 80, 80, 59, 41, 30, 24, 19, 16, 14, 12, 11, 10, 9, 8, 7, 7, 6, 6, 5, 5, 5,
+    4, 4, 4, 4, 4, 3, 3, 3, 3, 3, 3, 3, 3, 3, 2, 2, 2, 2, 2, 2, 2, 2, 2, 2, 2, 2, 2, 2, 2, 2, 2, 2,
+    2, 2, 2, 2, 2, 2, 1, 1, 1, 1, 1, 1, 1, 1, 1, 1, 1, 1, 1, 1, 1, 1, 1,
+];
 
 // Is the number of partitions of n models into k blocks below 2^64?
 pub fn stirling_fits(n: u64, k: u64) -> bool
     requires { n ≤ places }
     ensures { result ≡ ltb (stirling_of n k) (2 ^ 64) }
 {
-    if n <= LAST_ROW {
+    if n <= LAST_ROW || n < k {
         return true;
     }
-    if n < k {
-        return true;
-    }
-    k <= last_column(n - k)
+    k <= LAST_COLUMNS[(n - k) as usize]
 }
 
-// Row d out of row d - 1: to what stands on the left comes j times what stands above.
-fn row(t: &mut [u64; CAPACITY], w: usize, d: usize)
-    requires d_nonzero { (0 < d) × (d * w + w ≤ capacity) }
-    requires by_index { (j : ℕ) → j < w → stirling_of (j + d) j < 2 ^ 64 }
-    requires filled { Filled t.old w d }
-    ensures { Filled t.new w (suc d) }
+// Row d + 1 out of row d, the rows standing `stride` apart: behind it, or in its place where they stand 0 apart. To what stands on the left comes j times
+// what stands above.
+fn next_row(t: &mut [u64], w: usize, stride: usize, d: usize)
+    requires apart { (stride ≡ 0) ⊎ (w ≤ stride) }
+    requires room { d * stride + stride + w ≤ length t.old }
+    requires by_index { (j : ℕ) → j < w → stirling_of (j + suc d) j < 2 ^ 64 }
+    requires row { Stands t.old (d * stride) w d }
+    ensures row { Stands t.new (d * stride + stride) w (suc d) }
+    ensures before { (m : ℕ) → m < d * stride + stride → get_or t.new m 0 ≡ get_or t.old m 0 }
 {
-    let mut above = d * w - w;
-    let mut left: u64 = 0;
-    let mut j: usize = 0;
-    while j < w {
-        left += (j as u64) * t[above];
-        t[above + w] = left;
-        above += 1;
-        j += 1;
+    let above = d * stride;
+    let mut left = 0;
+    for at in above..above + w {
+        left += (at - above) as u64 * t[at];
+        t[at + stride] = left;
     }
 }
 
@@ -88,27 +64,8 @@ pub fn fill(n: u64, k: u64, t: &mut [u64; CAPACITY])
     ensures { Filled t.new (k + 1) (n - k + 1) }
 {
     let w = k as usize + 1;
-    let rows = (n - k) as usize + 1;
-    let mut d: usize = 1;
-    while d < rows {
-        row(t, w, d);
-        d += 1;
-    }
-}
-
-// Row d + 1 out of row d, in its place: to what stands on the left comes j times what stood here.
-fn next_row(t: &mut [u64; COLUMNS], w: usize, d: usize)
-    requires w_bound { w ≤ places + 1 }
-    requires by_index { (j : ℕ) → j < w → stirling_of (j + suc d) j < 2 ^ 64 }
-    requires row { Row t.old w d }
-    ensures { Row t.new w (suc d) }
-{
-    let mut left: u64 = 0;
-    let mut j: usize = 0;
-    while j < w {
-        left += (j as u64) * t[j];
-        t[j] = left;
-        j += 1;
+    for d in 0..(n - k) as usize {
+        next_row(t, w, w, d);
     }
 }
 
@@ -123,13 +80,11 @@ pub fn stirling(n: u64, k: u64) -> u64
     if n < k {
         return 0;
     }
-    let mut t = [1u64; COLUMNS];
+    let mut row = [1u64; COLUMNS];
     let w = k as usize + 1;
     let rows = (n - k) as usize;
-    let mut d: usize = 0;
-    while d < rows {
-        next_row(&mut t, w, d);
-        d += 1;
+    for d in 0..rows {
+        next_row(&mut row, w, 0, d);
     }
-    t[k as usize]
+    row[k as usize]
 }

@@ -1,6 +1,6 @@
 -- A band of the triangle of Stirling numbers, row after row in one list, and where on a row they reach 2^64.
 -- Assumes nothing.
-use Rattle.std.specs.Prelude.{◌≡◌, List, ℕ, ◌+◌, ◌-◌, ◌*◌, ◌≤◌, ◌<◌, ◌^◌, leb, ltb, length, get_or}
+use Rattle.std.specs.Prelude.{◌≡◌, List, ℕ, ◌+◌, ◌-◌, ◌*◌, ◌≤◌, ◌<◌, length, get_or}
 use Rattle.basics.specs.Limits.{places}
 use Rattle.numbers.specs.Numbers.{stirling_of}
 
@@ -20,11 +20,6 @@ pub record Reaches (t : List ℕ) (w at n k : ℕ) : Type 0 where
   pub column : k < w
   pub here : at ≡ (n - k) * w + k
 
--- row d alone
-pub record Row (t : List ℕ) (w d : ℕ) : Type 0 where
-  pub size : length t ≡ places + 1
-  pub there : (j : ℕ) → j < w → get_or t j 0 ≡ stirling_of (j + d) j
-
--- within the limits, the numbers of row d up to column r are below 2^64, and no others
-pub record LastColumn (d r : ℕ) : Type 0 where
-  pub fits : (k : ℕ) → k + d ≤ places → ltb (stirling_of (k + d) k) (2 ^ 64) ≡ leb k r
+-- row d, of w numbers, stands from `at` on
+pub record Stands (t : List ℕ) (at w d : ℕ) : Type 0 where
+  pub there : (j : ℕ) → j < w → get_or t (at + j) 0 ≡ stirling_of (j + d) j

@@ -1,2 +1,0 @@
--- The numbers that the counts of partitions are read from.
-pub mod Inner
