@@ -12,7 +12,7 @@ use lib.ListN.{length, take, drop, get_or, set, length-set, drop_of_length-le}
 use lib.Seq.{take-suc, take-length}
 use Rattle.basics.proofs.Lists.{drop-set}
 use Rattle.numbers.specs.Numbers.{choose}
-use Rattle.numbers.proofs.Laws.{pascal, choose-zero, choose_mono}
+use Rattle.numbers.proofs.Laws.{pascal, choose-zero, choose-none, choose_mono}
 use Rattle.listings.specs.Bytes.{Bytes}
 use Rattle.listings.specs.Places.{At, count_before}
 use Rattle.listings.proofs.Ranks.{at_rank, rank_below, place-is_rank}
@@ -21,6 +21,9 @@ use Rattle.subsets.specs.Listing.{subsets}
 use Rattle.subsets.proofs.Facts.{last_off}
 use Rattle.subsets.proofs.Theorem.{counted, lists}
 use Rattle.subsets.proofs.Places.{at_number}
+
+-- out of fewer numbers no more subsets can be made, and out of too few none
+pub ruleset fewer_numbers = (choose_mono, choose-none)
 
 below_count : (n k : ℕ) (x : Bytes) → is_subset n k x ≡ true → count_before subset_before x (subsets n k) < choose n k
 below_count n k x o = rw counted at (rank_below (lists n k) x o)

@@ -6,25 +6,27 @@ ghost use Rattle.subsets.specs.Inner.Searches.{Tight, Low};
 
 use binomials::coefficient;
 
+// The number behind place i; n + 1 stands behind the last.
+fn behind(n: u64, object: &[u8], i: usize) -> u64
+    requires { (n ≤ places) × (i < length object.now) }
+    ensures { result ≡ get_or object.now (suc i) (suc n) }
+{
+    object.get(i + 1).map_or(n + 1, |b| u64::from(*b))
+}
+
 // The first place whose number leaves room below the next, or below n + 1 at the last place.
 pub fn number_to_raise(n: u64, object: &[u8]) -> Option<usize>
     requires { n ≤ places }
     ensures { MatchOption result (Tight n object.now (length object.now)) (λ i. (i < length object.now) × (Tight n object.now i) × (suc (get_or object.now i 0) < get_or object.now (suc i) (suc n))) }
 {
-    for (i, b) in object.iter().enumerate() {
-        let next = object.get(i + 1).map_or(n + 1, |c| u64::from(*c));
-        if u64::from(*b) + 1 < next {
-            return Some(i);
-        }
-    }
-    None
+    (0..object.len()).find(|i| u64::from(object[*i]) + 1 < behind(n, object, *i))
 }
 
 // The first place whose number is above the smallest it can be, its place counted from 1.
 pub fn number_to_lower(object: &[u8]) -> Option<usize>
     ensures { MatchOption result (Low object.now (length object.now)) (λ i. (i < length object.now) × (Low object.now i) × (suc i < get_or object.now i 0)) }
 {
-    object.iter().enumerate().position(|(i, b)| i + 1 < usize::from(*b))
+    (0..object.len()).find(|i| *i + 1 < usize::from(object[*i]))
 }
 
 // The largest number below n out of which at most rank subsets of k can be made, and how many can.
@@ -34,16 +36,18 @@ pub struct Top {
     pub below: u64,
 }
 
+#[tactic(auto, using(crate::proofs::Ranks::fewer_numbers))]
 pub fn largest_top(rank: u64, n: u64, k: u64) -> Top
     requires n_le_places { (n ≤ places) × (choose n k < 2 ^ 64) }
     requires k_nonzero { (0 < k) × (rank < choose n k) }
     ensures { (result.top < n) × ((result.below ≡ choose result.top k) × ((choose result.top k ≤ rank) × (rank < choose (suc result.top) k))) }
 {
-    for top in (0..n).rev() {
+    let mut top = n;
+    loop {
+        top -= 1;
         let below = coefficient(top, k);
         if below <= rank {
             return Top { top, below };
         }
     }
-    unreachable!()
 }
