@@ -140,4 +140,4 @@ module _ (n : ℕ) (x : Bytes) (o : is_subset n (length x) x ≡ true) where
       let top : get_or x r 0 - 1 ≡ suc (b + r) = omega arith in
       let from : get_or x r 0 - 1 - r ≡ suc b = omega arith in
       moved r (get_or x r 0 - 1) (get_or x r 0 - 1 - r) within
-      (before (rw (from, top, e, lowest r (omega arith) low) (seam_number m r (b + r) (omega (arith, h.next)) (highest_last (b + r) b r refl) (lowest_first (suc (b + r)) r (omega arith)))))
+      (before (rw (from, top, e, lowest r (omega arith) low) (seam_number m r (b + r) (omega (arith, h.next)) (highest_last (b + r) (suc b) r (omega arith) (omega arith)) (lowest_first (suc (b + r)) r (omega arith)))))

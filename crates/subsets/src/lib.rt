@@ -17,6 +17,7 @@ use listings::{Step, fill_up};
 use search::{largest_top, number_to_lower, number_to_raise};
 
 // Does the slice hold a subset of k out of 1 to n?
+#[tactic(auto, using(crate::proofs::Testing::test_steps))]
 pub fn is_object(n: u64, k: u64, object: &[u8]) -> bool
     ensures { result ≡ is_subset n k object.now }
 {
@@ -35,6 +36,7 @@ pub fn is_object(n: u64, k: u64, object: &[u8]) -> bool
 }
 
 // The earliest: 1, 2, .., k.
+#[tactic(auto, using(crate::proofs::Places::lowest_first))]
 pub fn first(n: u64, object: &mut [u8])
     requires { (n ≤ places) × (length object.old ≤ n) }
     ensures { First (subsets n (length object.old)) object.new }
@@ -43,6 +45,7 @@ pub fn first(n: u64, object: &mut [u8])
 }
 
 // The latest: n - k + 1, .., n.
+#[tactic(auto, using(crate::proofs::Places::highest_last))]
 pub fn last(n: u64, object: &mut [u8])
     requires { (n ≤ places) × (length object.old ≤ n) }
     ensures { Last (subsets n (length object.old)) object.new }
@@ -104,11 +107,11 @@ pub fn unrank(rank: u64, n: u64, object: &mut [u8])
     ensures { At (subsets n (length object.old)) object.new rank }
 {
     let mut rest = rank;
-    let mut end = n;
-    for i in (0..object.len()).rev() {
-        let found = largest_top(rest, end, i as u64 + 1);
+    let mut top = n;
+    for end in (0..object.len()).rev() {
+        let found = largest_top(rest, top, end as u64 + 1);
         rest -= found.below;
-        end = found.top;
-        object[i] = (end + 1) as u8;
+        top = found.top;
+        object[end] = (top + 1) as u8;
     }
 }

@@ -1,3 +1,4 @@
+-- `next`: with the number found raised and those in front of it started over it is what follows; where none is found, it was the last.
 use Rattle.std.proofs.Common.{◌+◌, get_or, true, arith}
 use Rattle.listings.proofs.Stepping.{stops}
 use Rattle.subsets.proofs.Theorem.{lists}

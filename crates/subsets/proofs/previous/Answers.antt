@@ -1,3 +1,4 @@
+-- `previous`: with the number found lowered and those in front of it as large as they can be it is what it followed; where none is found, it was the first.
 use Rattle.std.proofs.Common.{arith, suc, ◌-◌, get_or}
 use Rattle.listings.proofs.Stepping.{stops}
 use Rattle.subsets.proofs.Theorem.{lists}

@@ -1,3 +1,4 @@
+-- `rank`: each turn counts by the number that it reads, and with no number left all are counted.
 use Rattle.std.proofs.Common.{◌≡◌, ◌+◌, ◌-◌, arith}
 use Rattle.subsets.proofs.Ranks.{Turn, turn, ranked}
 use Rattle.subsets.proofs.rank.Goals as goal

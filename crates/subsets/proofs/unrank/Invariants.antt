@@ -3,5 +3,5 @@ use Rattle.std.proofs.Common.{length}
 use Rattle.subsets.proofs.Ranks.{Unranking}
 use Rattle.subsets.proofs.unrank.Given as goal
 
-abbrev pub invariant-loop-i : goal.invariant-loop-i
-invariant-loop-i l = Unranking (length l.fn.object) l.n l.rank l.rest l.end l.i l.object
+abbrev pub invariant-loop-end : goal.invariant-loop-end
+invariant-loop-end l = Unranking (length l.fn.object) l.n l.rank l.rest l.top l.end l.object
