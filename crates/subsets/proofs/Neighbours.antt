@@ -10,7 +10,7 @@ use native.Mathlib.Omega.{arith}
 use lib.ListN.{length, take, drop, get_or, set, length-drop, get_or-eq_default}
 use lib.Seq.{take-length, take-suc, append_snoc, split_at}
 use Rattle.basics.specs.Sums.{range}
-use Rattle.basics.proofs.Lists.{head-drop, front_long, same-long, refilled}
+use Rattle.basics.proofs.Lists.{head-drop, front_long, refilled}
 use Rattle.basics.proofs.Ranges.{range_snoc}
 use Rattle.listings.specs.Bytes.{Bytes}
 use Rattle.listings.specs.Places.{First, Last}
@@ -72,9 +72,6 @@ pub record Move (up : Bool) (n i v from : ℕ) (x : Bytes) : Type 0 where
 module _ {up : Bool} {n i v from : ℕ} {x : Bytes} (m : Move up n i v from x) where
   pub lent : length (take i (set x i v)) ≡ i
   lent = front_long x i v m.within
-
-  pub as_long : (part : Bytes) → length part ≡ length (take i (set x i v)) → length (part ++ drop i (set x i v)) ≡ length x
-  as_long part e = same-long x i v m.within part e
 
   pub moves : {part : Bytes} → part ≡ range from (length (take i (set x i v))) → ◌≡◌ {A = Said} (STEPPED, part ++ drop i (set x i v)) (act (step_call up) subset_before (subsets n (length x)) x)
   moves e = ap {B = Said} (λ y. (STEPPED, y)) (refilled x i v m.within from e) ∙ steps (lists n (length x)) m.beside
