@@ -8,3 +8,5 @@ pub mod Ranks
 pub mod Testing
 pub mod Floors
 pub mod Small
+pub mod Counts
+pub mod Sums

@@ -1,6 +1,6 @@
 -- Where a partition with the last part p stands: behind those with a smaller last part, by the place of its other parts. And what holds at
 -- each turn of RANK's and UNRANK's loops, which go from the last part to the first. Assumes nothing.
-use mathlib.Core.Path.{◌≡◌, refl, ◌∙◌, subst}
+use mathlib.Core.Path.{◌≡◌, refl, sym, ◌∙◌, subst}
 use mathlib.Core.Bool.{true}
 use mathlib.Core.List.{[], ◌∷◌, ◌++◌, map, flat_map, append-nil, append_assoc}
 use Prim.Native.Nat.{ℕ, zero, suc, ◌+◌, ◌-◌, ◌*◌, ◌≤◌, ◌<◌}
@@ -62,22 +62,25 @@ ranking F N x pos o =
     let all : take (length x) x ≡ x = take_all (length x) x (omega arith) in
     record { bounds = omega arith; parts = rw all o; sum = rw all (zero-add _) }
 
-module _ {F N r f n k : ℕ} {x : Bytes} (h : Ranking F N x r f n k) (pos : 0 < k) where
-  one_more : suc (k - 1) ≡ k
-  one_more = omega arith
+-- the last of the k parts that are left, p, behind all but one of them
+pub record Turn (F N r f n k end p : ℕ) (x : Bytes) : Type 0 where
+  pub floors : (0 < f) × (f ≤ p) × (p ≤ n) × (n ≤ N)
+  pub fits : r + (parts_from f n k - parts_from p n k) < parts_from F N (length x)
+  pub next : Ranking F N x (r + (parts_from f n k - parts_from p n k)) p (n - p) end
 
-  pub last_of : Ends f n (k - 1) (take (k - 1) x) (get_or x (k - 1) 0)
-  last_of = snoc-cases f n (k - 1) (take (k - 1) x) (get_or x (k - 1) 0) (rw (← take-suc x (k - 1) 0 (omega (arith, h.bounds)), one_more) h.parts)
-
-  pub ranking_on : {p s : ℕ} → p ≡ get_or x (k - 1) 0 → s ≡ parts_from f n k - parts_from p n k → Ranking F N x (r + s) p (n - p) (k - 1)
-  ranking_on {p} {s} e g =
-      let ends : Ends f n (k - 1) (take (k - 1) x) p = rw e last_of in
-      let at = at_last_part (k - 1) f n p _ ends.from ends.within (at_rank (lists p (n - p) (k - 1)) (take (k - 1) x) ends.rest) in
-      record {
-        bounds = omega (arith, h.bounds);
-        parts = ends.rest;
-        sum = omega (arith, h.sum, place-is_rank (lists f n k) _ (rw (e, ← take-suc x (k - 1) 0 (omega (arith, h.bounds)), one_more, ← e) at at));
-      }
+pub turn : {F N r f n i : ℕ} {x : Bytes} → Ranking F N x r f n i → is_integer_partition F N (length x) x ≡ true → (k end p : ℕ) → i ≡ suc end → k ≡ suc end → p ≡ get_or x end 0
+    → Turn F N r f n k end p x
+turn {F} {N} {r} {f} {n} {i} {x} h o k end p e g b =
+    let left : Ranking F N x r f n k = rw (e ∙ sym g) at h in
+    let split : take k x ≡ take end x ++ (p ∷ []) = rw (g, b) (take-suc x end 0 (omega (arith, left.bounds))) in
+    let ends = snoc-cases f n end (take end x) p (rw (split, g) at left.parts) in
+    let here = at_last_part end f n p _ ends.from ends.within (at_rank (lists p (n - p) end) (take end x) ends.rest) in
+    let place = place-is_rank (lists f n k) _ (rw (← g, ← split) at here) in
+    record {
+      floors = omega (arith, left.bounds, ends);
+      fits = omega (arith, left.sum, place, rank_below (lists F N (length x)) x o, counted F N (length x));
+      next = record { bounds = omega (arith, left.bounds); parts = ends.rest; sum = omega (arith, left.sum, place) };
+    }
 
 pub ranked : {F N r f n : ℕ} {x : Bytes} → Ranking F N x r f n 0 → r ≡ count_before integer_partition_before x (integer_partitions F N (length x))
 ranked {F} {N} {r} {f} {n} {x} h = omega (arith, h.sum, rank_below (lists f n 0) [] h.parts, counted f n 0, one_empty f n)
@@ -103,39 +106,28 @@ fits f n k some =
     let p = partition_cases f n k x o in
     (floor_total f n k x o, λ e. omega (arith, total_end x 0 (omega arith)))
 
--- behind the first there are parts left, and the floor is at most the sum
-pub more : (k f n r : ℕ) → 0 < r → r < parts_from f n k → (0 < k) × (f ≤ n)
-more zero f n r pos low = absurd (omega (arith, one_empty f n))
-more (suc k) f n r pos low = (omega arith, omega (arith, fits f n (suc k) (omega arith), suc-mul k f))
-
-module _ {K F N R r f n k here : ℕ} {x : Bytes} (u : Unranking K F N R r f n k x) (pos : 0 < r) (c : here ≡ parts_from f (n - f) (k - 1)) where
-  left : (suc (k - 1) ≡ k) × (f ≤ n)
-  left = let (some, low) = more k f n r pos u.below in (omega arith, low)
-
-  -- the rank is among those that end with the floor
-  pub ends_here : r < here → Unranking K F N R r f (n - f) (k - 1) (set x (k - 1) f)
-  ends_here low =
-      let none : parts_from f n k - parts_from f n k + r ≡ r = omega arith in
-      record {
-        size = length-set x (k - 1) f ∙ u.size;
-        bounds = omega (arith, u.bounds);
-        below = omega arith;
-        makes = λ y at. rw (drop-set x (k - 1) f (omega (arith, u, left)), ← append_assoc y (f ∷ []) (drop (suc (k - 1)) x), left.0) (u.makes (y ++ (f ∷ [])) (rw (left.0, none) at (at_last_part (k - 1) f n f r (omega arith) left.1 at)));
-      }
-
-  -- it is behind them
-  pub ends_higher : here ≤ r → Unranking K F N R (r - here) (f + 1) n k x
-  ends_higher high =
-      let back : parts_from f (n - f) (k - 1) + (r - here) ≡ r = omega arith in
-      rw (add-one f)
-      (record {
-        size = u.size;
-        bounds = omega (arith, u.bounds);
-        below = omega (arith, u.below, rw left.0 at (next_floor f n (k - 1) left.1));
-        makes = λ y at. u.makes y (rw (back, left.0) at (above_floor (k - 1) f n (r - here) left.1 (rw (← left.0) at at)));
-      })
+-- the last part p of those that are left, and the rank s that it leaves to the parts in front of it
+pub unranking_on : {K F N R r f n i : ℕ} {x : Bytes} → Unranking K F N R r f n i x → (end p s : ℕ) → i ≡ suc end → f ≤ p → p ≤ n → s < parts_from p (n - p) end
+    → parts_from f n (suc end) - parts_from p n (suc end) + s ≡ r → Unranking K F N R s p (n - p) end (set x end p)
+unranking_on {K} {F} {N} {R} {r} {f} {n} {i} {x} u end p s e low high below whole =
+    record {
+      size = length-set x end p ∙ u.size;
+      bounds = omega (arith, u.bounds);
+      below = below;
+      makes = λ y at.
+          rw (drop-set x end p (omega (arith, u)), ← append_assoc y (p ∷ []) (drop (suc end) x))
+          (rw e at (u.makes (y ++ (p ∷ [])) (rw (e, ← whole) (at_last_part end f n p s low high at))));
+    }
 
 -- where the rank is 0, the first of those in front makes it
-pub unranked : {K F N R r f n k : ℕ} {x y : Bytes} → Unranking K F N R r f n k x → r ≡ 0 → First (integer_partitions f n (length (take k x))) y
+pub unranked_first : {K F N R r f n k : ℕ} {x y : Bytes} → Unranking K F N R r f n k x → r ≡ 0 → First (integer_partitions f n (length (take k x))) y
     → At (integer_partitions F N K) (y ++ drop k x) R
-unranked {K} {F} {N} {R} {r} {f} {n} {k} {x} {y} u e start = u.makes y (rw (e, ← length-take-le k x (omega arith)) start)
+unranked_first {K} {F} {N} {R} {r} {f} {n} {k} {x} {y} u e start = u.makes y (rw (e, ← length-take-le k x (omega arith)) start)
+
+-- with no part left the object is there
+pub unranked : {K F N R r f n : ℕ} {x : Bytes} → Unranking K F N R r f n 0 x → At (integer_partitions F N K) x R
+unfolding integer_partitions
+unranked {r = r} {f = f} {n = n} u =
+    let none : r ≡ 0 = omega (arith, u.below, one_empty f n) in
+    let empty : n ≡ 0 = (fits f n 0 (omega (arith, u.below))).1 refl in
+    u.makes [] (rw (none, empty) refl)

@@ -1,62 +1,50 @@
--- The test of a partition from its last part on: what it knows when it has passed some parts, and what it finds.
+-- The test of a partition from its last part on: what is still to be tested is the same test of the parts in front, over the last part and with what
+-- it leaves of the sum.
 -- Assumes nothing.
-use mathlib.Core.Path.{◌≡◌, sym, ◌∙◌, ap}
-use mathlib.Core.Bool.{true, false, and-true as and-with-true}
-use mathlib.Core.List.{◌∷◌}
-use Prim.Native.Nat.{ℕ, zero, suc, ◌+◌, ◌-◌, ◌≤◌, ◌<◌}
+use mathlib.Core.Path.{◌≡◌, refl, sym}
+use mathlib.Core.Bool.{Bool, true, false, and-true as and-with-true}
+use Prim.Native.Nat.{ℕ, zero, suc, ◌-◌, ◌≤◌, ◌<◌}
 use native.Mathlib.Omega.{arith}
 use lib.Dec.{eqb}
-use lib.ListN.{length, get_or, drop, get_or-eq_default}
-use lib.Seq.{drop-cons, drop-length}
+use lib.ListN.{length, get_or, take}
+use lib.Seq.{take-suc}
 use borrow.Author.Tests.{eq-eqb, ne_eqb}
 use Rattle.basics.specs.Sums.{total}
 use Rattle.basics.proofs.Bools.{fails}
-use Rattle.basics.proofs.Lists.{head-drop}
 use Rattle.listings.specs.Bytes.{Bytes}
-use Rattle.listings.proofs.Standing.{get_d_default}
 use Rattle.integer_partitions.specs.Objects.{descends, is_integer_partition}
-use Rattle.integer_partitions.proofs.Facts.{descends_makes, cut}
+use Rattle.integer_partitions.proofs.Facts.{partition_cases, last_of, snoc_makes}
 
--- of k parts those from place i on descend to the floor, and `left` of the sum remains
-pub record Tested (f n k : ℕ) (x : Bytes) (least left i : ℕ) : Type 0 where
-  pub size : length x ≡ k
-  pub inside : i ≤ length x
-  pub sum : total (drop i x) + left ≡ n
-  pub next : least ≡ get_or x i f
-  pub down : descends f (drop i x) ≡ true
+same_tests : (a b : Bool) → (a ≡ true → b ≡ true) → (b ≡ true → a ≡ true) → a ≡ b
+same_tests true b on back = sym (on refl)
+same_tests false true on back = back refl
+same_tests false false on back = refl
 
-pub tested_none : (f n k : ℕ) (x : Bytes) → length x ≡ k → Tested f n k x f n (length x)
-unfolding descends total
-tested_none f n k x size =
-    record { size = size; inside = omega arith; sum = rw (drop-length x) (omega arith); next = sym (get_or-eq_default x f (omega arith)); down = rw (drop-length x) }
+none_left : (n : ℕ) → eqb 0 n ≡ eqb n 0
+none_left zero = refl
+none_left (suc n) = rw (ne_eqb 0 (suc n) (λ e. omega arith), ne_eqb (suc n) 0 (λ e. omega arith))
 
--- the part in front of them
-module _ {f n k least left i p : ℕ} {x : Bytes} (t : Tested f n k x least left i) (pos : 0 < i) (e : p ≡ get_or x (i - 1) 0) where
-  turn : Tested f n k x least left (suc (i - 1))
-  turn = let more : suc (i - 1) ≡ i = omega arith in rw more t
+pub other_length : (f n k : ℕ) (x : Bytes) → (length x ≡ k → ⊥) → is_integer_partition f n k x ≡ false
+other_length f n k x h = fails (is_integer_partition f n k x) (λ o. h (partition_cases f n k x o).size)
 
-  pub too_low : p < least → false ≡ is_integer_partition f n k x
-  too_low h = sym (fails (is_integer_partition f n k x) (λ o. omega (arith, turn.next, cut f n k (i - 1) x o turn.inside, head-drop x (suc (i - 1)) f)))
+-- the first i parts, from the last of them on
 
-  pub too_large : left < p → false ≡ is_integer_partition f n k x
-  too_large h = sym (fails (is_integer_partition f n k x) (λ o. omega (arith, turn.sum, cut f n k (i - 1) x o turn.inside)))
+module _ (f n i : ℕ) (x : Bytes) where
+  pub too_low : 0 < i → i ≤ length x → get_or x (i - 1) 0 < f → is_integer_partition f n i (take i x) ≡ false
+  too_low pos within h = fails (is_integer_partition f n i (take i x)) (λ o. omega (arith, last_of f n i x pos within o))
 
-  pub tested_more : least ≤ p → p ≤ left → Tested f n k x p (left - p) (i - 1)
-  unfolding total
-  tested_more low h =
-      let d : drop (i - 1) x ≡ p ∷ drop (suc (i - 1)) x = rw e (drop-cons x (i - 1) 0 turn.inside) in
-      record {
-        size = t.size;
-        inside = omega (arith, t.inside);
-        sum = omega (arith, turn.sum, ap total d);
-        next = e ∙ get_d_default x (i - 1) 0 f turn.inside;
-        down = rw d (descends_makes f p (drop (suc (i - 1)) x) (omega (arith, turn.next, head-drop x (suc (i - 1)) f)) turn.down);
-      }
+  pub too_large : 0 < i → i ≤ length x → n < get_or x (i - 1) 0 → is_integer_partition f n i (take i x) ≡ false
+  too_large pos within h = fails (is_integer_partition f n i (take i x)) (λ o. omega (arith, last_of f n i x pos within o))
 
-none_left : (s n left : ℕ) → s + left ≡ n → eqb left 0 ≡ eqb s n
-none_left s n zero e = sym (eq-eqb s n (omega arith))
-none_left s n (suc left) e = ne_eqb (suc left) 0 (λ q. omega arith) ∙ sym (ne_eqb s n (λ q. omega arith))
+  pub goes_on : 0 < i → i ≤ length x → f ≤ get_or x (i - 1) 0 → get_or x (i - 1) 0 ≤ n
+      → is_integer_partition f n i (take i x) ≡ is_integer_partition (get_or x (i - 1) 0) (n - get_or x (i - 1) 0) (i - 1) (take (i - 1) x)
+  goes_on pos within low high =
+      let e : suc (i - 1) ≡ i = omega arith in
+      same_tests _ _ (λ o. (last_of f n i x pos within o).rest)
+      (λ o. rw (← take-suc x (i - 1) 0 (omega arith), e) at (snoc_makes f n (i - 1) (take (i - 1) x) (get_or x (i - 1) 0) (record { from = low; within = high; rest = o })))
 
-pub tested_all : {f n k least left : ℕ} {x : Bytes} → Tested f n k x least left 0 → eqb left 0 ≡ is_integer_partition f n k x
-unfolding is_integer_partition
-tested_all {f} {n} {k} {least} {left} {x} t = rw (eq-eqb (length x) k t.size, t.down, and-with-true (eqb (total x) n)) (none_left (total x) n left t.sum)
+  pub ends : i ≤ 0 → is_integer_partition f n i (take i x) ≡ eqb n 0
+  unfolding is_integer_partition descends total
+  ends h = let e : i ≡ 0 = omega arith in rw (e, and-with-true (eqb 0 n)) (none_left n)
+
+pub ruleset test_steps = (other_length, too_low, too_large, goes_on, ends)
