@@ -1,13 +1,21 @@
--- What RANK and UNRANK use of the counts: of those with the floor as the last part, of those above it, and where there are none.
+-- Where a rank is left to make up, there is a part to find, and the floor is at most the sum.
 -- Assumes nothing.
-use mathlib.Core.Path.{◌≡◌}
-use Prim.Native.Nat.{ℕ, suc, ◌-◌, ◌+◌, ◌≤◌, ◌<◌}
+use mathlib.Core.Path.{◌≡◌, ap}
+use Prim.Native.Nat.{ℕ, zero, suc, ◌*◌, ◌≤◌, ◌<◌}
 use native.Mathlib.Nat.{suc-mul}
 use native.Mathlib.Omega.{arith}
 use Rattle.numbers.specs.Numbers.{parts_from}
-use Rattle.numbers.proofs.Laws.{too_few, next_floor, floor_mono}
+use Rattle.numbers.proofs.Laws.{too_few}
 
-pub none_above : (f n k : ℕ) → n < f → parts_from f n (suc k) ≡ 0
-none_above f n k h = too_few f n (suc k) (omega (arith, suc-mul k f))
+-- without parts there is at most one
+pub one_empty : (f n k : ℕ) → k ≡ 0 → parts_from f n k ≤ 1
+unfolding parts_from
+one_empty f zero zero e = omega arith
+one_empty f (suc n) zero e = omega arith
+one_empty f n (suc k) e = absurd (omega arith)
 
-pub ruleset counts = (none_above, next_floor, floor_mono)
+pub few_above : (f n k : ℕ) → n < f → parts_from f n k ≤ 1
+few_above f n zero h = one_empty f n 0 (omega arith)
+few_above f n (suc k) h = omega (arith, too_few f n (suc k) (omega (arith, suc-mul k f)))
+
+pub ruleset counts = (one_empty, few_above, too_few)

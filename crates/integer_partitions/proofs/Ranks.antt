@@ -24,6 +24,7 @@ use Rattle.integer_partitions.specs.Objects.{is_integer_partition, integer_parti
 use Rattle.integer_partitions.specs.Listing.{integer_partitions}
 use Rattle.integer_partitions.proofs.Facts.{partition_cases, Ends, snoc-cases, floor_total}
 use Rattle.integer_partitions.proofs.Theorem.{lists, counted}
+use Rattle.integer_partitions.proofs.Counts.{one_empty, few_above}
 
 at_last_part : (k f n p r : ℕ) {x : Bytes} → f ≤ p → p ≤ n → At (integer_partitions p (n - p) k) x r
     → At (integer_partitions f n (suc k)) (x ++ (p ∷ [])) (parts_from f n (suc k) - parts_from p n (suc k) + r)
@@ -43,12 +44,6 @@ above_floor k f n r h at =
     let size : suc n - f ≡ suc (suc n - suc f) = omega arith in
     let front : Bytes → Bytes = λ y. y ++ (f ∷ []) in
     rw (size, ← counted f (n - f) k, ← length-map (integer_partitions f (n - f) k) front) (at_append_right (map front (integer_partitions f (n - f) k)) (integer_partitions (suc f) n (suc k)) r at)
-
--- without parts there is at most one
-one_empty : (f n : ℕ) → parts_from f n 0 ≤ 1
-unfolding parts_from
-one_empty f zero = omega arith
-one_empty f (suc n) = omega arith
 
 -- the rank, from the last part on: r is what the parts behind the first k make of it
 
@@ -83,7 +78,7 @@ turn {F} {N} {r} {f} {n} {i} {x} h o k end p e g b =
     }
 
 pub ranked : {F N r f n : ℕ} {x : Bytes} → Ranking F N x r f n 0 → r ≡ count_before integer_partition_before x (integer_partitions F N (length x))
-ranked {F} {N} {r} {f} {n} {x} h = omega (arith, h.sum, rank_below (lists f n 0) [] h.parts, counted f n 0, one_empty f n)
+ranked {F} {N} {r} {f} {n} {x} h = omega (arith, h.sum, rank_below (lists f n 0) [] h.parts, counted f n 0, one_empty f n 0 refl)
 
 -- the object of a rank R, written from the last part on: whatever has the rank r among those that can stand in front of what is written makes it
 
@@ -106,28 +101,34 @@ fits f n k some =
     let p = partition_cases f n k x o in
     (floor_total f n k x o, λ e. omega (arith, total_end x 0 (omega arith)))
 
--- the last part p of those that are left, and the rank s that it leaves to the parts in front of it
-pub unranking_on : {K F N R r f n i : ℕ} {x : Bytes} → Unranking K F N R r f n i x → (end p s : ℕ) → i ≡ suc end → f ≤ p → p ≤ n → s < parts_from p (n - p) end
-    → parts_from f n (suc end) - parts_from p n (suc end) + s ≡ r → Unranking K F N R s p (n - p) end (set x end p)
-unranking_on {K} {F} {N} {R} {r} {f} {n} {i} {x} u end p s e low high below whole =
-    record {
-      size = length-set x end p ∙ u.size;
-      bounds = omega (arith, u.bounds);
-      below = below;
-      makes = λ y at.
-          rw (drop-set x end p (omega (arith, u)), ← append_assoc y (p ∷ []) (drop (suc end) x))
-          (rw e at (u.makes (y ++ (p ∷ [])) (rw (e, ← whole) (at_last_part end f n p s low high at))));
-    }
+module _ {K F N R r f n k here : ℕ} {x : Bytes} (u : Unranking K F N R r f n k x) (pos : 0 < r) (c : here ≡ parts_from f (n - f) (k - 1)) where
+  left : (suc (k - 1) ≡ k) × (f ≤ n)
+  left = grind (arith, u.below, one_empty f n k, few_above f n k)
+
+  -- the rank is among those that end with the floor
+  pub ends_here : r < here → Unranking K F N R r f (n - f) (k - 1) (set x (k - 1) f)
+  ends_here low =
+      let none : parts_from f n k - parts_from f n k + r ≡ r = omega arith in
+      record {
+        size = length-set x (k - 1) f ∙ u.size;
+        bounds = omega (arith, u.bounds);
+        below = omega arith;
+        makes = λ y at. rw (drop-set x (k - 1) f (omega (arith, u, left)), ← append_assoc y (f ∷ []) (drop (suc (k - 1)) x), left.0) (u.makes (y ++ (f ∷ [])) (rw (left.0, none) at (at_last_part (k - 1) f n f r (omega arith) left.1 at)));
+      }
+
+  -- it is behind them
+  pub ends_higher : here ≤ r → Unranking K F N R (r - here) (f + 1) n k x
+  ends_higher high =
+      let back : parts_from f (n - f) (k - 1) + (r - here) ≡ r = omega arith in
+      rw (add-one f)
+      (record {
+        size = u.size;
+        bounds = omega (arith, u.bounds);
+        below = omega (arith, u.below, rw left.0 at (next_floor f n (k - 1) left.1));
+        makes = λ y at. u.makes y (rw (back, left.0) at (above_floor (k - 1) f n (r - here) left.1 (rw (← left.0) at at)));
+      })
 
 -- where the rank is 0, the first of those in front makes it
-pub unranked_first : {K F N R r f n k : ℕ} {x y : Bytes} → Unranking K F N R r f n k x → r ≡ 0 → First (integer_partitions f n (length (take k x))) y
+pub unranked : {K F N R r f n k : ℕ} {x y : Bytes} → Unranking K F N R r f n k x → r ≡ 0 → First (integer_partitions f n (length (take k x))) y
     → At (integer_partitions F N K) (y ++ drop k x) R
-unranked_first {K} {F} {N} {R} {r} {f} {n} {k} {x} {y} u e start = u.makes y (rw (e, ← length-take-le k x (omega arith)) start)
-
--- with no part left the object is there
-pub unranked : {K F N R r f n : ℕ} {x : Bytes} → Unranking K F N R r f n 0 x → At (integer_partitions F N K) x R
-unfolding integer_partitions
-unranked {r = r} {f = f} {n = n} u =
-    let none : r ≡ 0 = omega (arith, u.below, one_empty f n) in
-    let empty : n ≡ 0 = (fits f n 0 (omega (arith, u.below))).1 refl in
-    u.makes [] (rw (none, empty) refl)
+unranked {K} {F} {N} {R} {r} {f} {n} {k} {x} {y} u e start = u.makes y (rw (e, ← length-take-le k x (omega arith)) start)

@@ -15,7 +15,8 @@ mod search;
 
 use basics::sum;
 use listings::Step;
-use search::{last_part, part_to_lower, part_to_raise, with_smaller};
+use partition_numbers::at_least;
+use search::{part_to_lower, part_to_raise, with_smaller};
 
 // Does the slice hold k parts of at least the floor, weakly descending, with the sum n?
 #[tactic(auto, using(crate::proofs::Testing::test_steps))]
@@ -121,6 +122,7 @@ pub fn rank(floor: u64, n: u64, object: &[u8]) -> u64
 }
 
 // The object of a rank, from its last part on. Those that have the least part there come first: the rank is among them, or the part is larger.
+#[tactic(auto, using(crate::proofs::Counts::counts))]
 pub fn unrank(rank: u64, floor: u64, n: u64, object: &mut [u8])
     requires n_le_places { (n ≤ places) × ((0 < floor) × (length object.old ≤ places)) }
     requires rank_bound { rank < parts_from floor n (length object.old) }
@@ -129,15 +131,17 @@ pub fn unrank(rank: u64, floor: u64, n: u64, object: &mut [u8])
     let mut rest = rank;
     let mut least = floor;
     let mut left = n;
-    for end in (0..object.len()).rev() {
-        if rest == 0 {
-            first(least, left, &mut object[..end + 1]);
-            return;
+    let mut k = object.len();
+    while 0 < rest {
+        let here = at_least(least, left - least, k as u64 - 1);
+        if rest < here {
+            k -= 1;
+            left -= least;
+            object[k] = least as u8;
+        } else {
+            rest -= here;
+            least += 1;
         }
-        let found = last_part(rest, least, left, end as u64);
-        rest = found.rest;
-        least = found.part;
-        left -= least;
-        object[end] = least as u8;
     }
+    first(least, left, &mut object[..k]);
 }

@@ -1,5 +1,5 @@
 // The searches behind the steps and ranks of integer partitions: each reads, and answers a place or a number.
-ghost use Rattle.std.specs.Prelude.{◌≡◌, suc, ◌+◌, ◌-◌, ◌≤◌, ◌<◌, length, get_or};
+ghost use Rattle.std.specs.Prelude.{◌≡◌, ◌+◌, ◌-◌, ◌≤◌, ◌<◌, length, get_or};
 ghost use Rattle.basics.specs.Limits.{places};
 ghost use Rattle.basics.specs.Sums.{total};
 ghost use Rattle.numbers.specs.Numbers.{parts_from};
@@ -56,32 +56,4 @@ pub fn with_smaller(floor: u64, p: u64, n: u64, k: u64) -> u64
         return 0;
     }
     at_least(floor, n, k) - at_least(p, n, k)
-}
-
-// The last part of the object of a rank, and the rank that it leaves to the parts in front of it.
-#[derive(Clone, Copy)]
-pub struct LastPart {
-    pub part: u64,
-    pub rest: u64,
-}
-
-// Of those with k parts in front of the last: those that have the least part there come first, and the rank is among them, or the part is larger.
-#[tactic(auto, using(crate::proofs::Counts::counts))]
-pub fn last_part(rank: u64, floor: u64, n: u64, k: u64) -> LastPart
-    requires floor_nonzero { (0 < floor) × ((n ≤ places) × (k ≤ places)) }
-    requires rank_bound { rank < parts_from floor n (suc k) }
-    ensures between { (floor ≤ result.part) × (result.part ≤ n) }
-    ensures below { result.rest < parts_from result.part (n - result.part) k }
-    ensures whole { parts_from floor n (suc k) - parts_from result.part n (suc k) + result.rest ≡ rank }
-{
-    let mut part = floor;
-    let mut rest = rank;
-    loop {
-        let here = at_least(part, n - part, k);
-        if rest < here {
-            return LastPart { part, rest };
-        }
-        rest -= here;
-        part += 1;
-    }
 }

@@ -1,19 +1,21 @@
--- `unrank`: each turn writes the last part that is missing; with rank 0 left the first of the others make the object.
-use Rattle.std.proofs.Common.{◌≡◌, ◌+◌, ◌-◌, length, take, arith}
+-- `unrank`: a turn keeps what makes the object, and with rank 0 left the first of the parts that are missing does.
+use Rattle.std.proofs.Common.{arith}
 use lib.Seq.{length-take-le}
-use Rattle.integer_partitions.proofs.Ranks.{fits, unranking_on, unranked}
+use Rattle.integer_partitions.proofs.Ranks.{fits, ends_here, ends_higher}
 use Rattle.integer_partitions.proofs.unrank.Goals as goal
 
-pub loop-end-preserved : goal.loop-end-preserved
-loop-end-preserved c =
-    let found = c.last_part-found.ensures in
-    unranking_on c.loop-end.invariant (c.loop-end.end - 1) _ _ (omega arith) found.between.0 found.between.1 found.below found.whole
+pub loop-rest-preserved-then-rest-here : goal.loop-rest-preserved-then-rest-here
+loop-rest-preserved-then-rest-here c = ends_here c.loop-rest.invariant (omega arith) c.at_least-here.ensures c.if-rest-here.true
+
+pub loop-rest-preserved : goal.loop-rest-preserved
+loop-rest-preserved c = ends_higher c.loop-rest.invariant (omega arith) c.at_least-here.ensures c.if-rest-here.false
 
 pub first-requires-clause-n_le_places : goal.first-requires-clause-n_le_places
 first-requires-clause-n_le_places c =
-    let l = c.loop-end in
-    let size : length (take (l.end - 1 + 1) l.object) ≡ l.end = omega (arith, length-take-le (l.end - 1 + 1) l.object (omega arith)) in
-    rw size (omega (arith, fits l.least l.left l.end (omega arith)))
+    let l = c.loop-rest in
+    rw (length-take-le l.k l.object (omega arith)) (omega (arith, fits l.least l.left l.k (omega arith)))
 
-pub returns : goal.returns
-returns c = let none : c.loop-end.end ≡ 0 = omega arith in unranked (rw none at c.loop-end.invariant)
+pub first-requires-clause-n_value : goal.first-requires-clause-n_value
+first-requires-clause-n_value c =
+    let l = c.loop-rest in
+    rw (length-take-le l.k l.object (omega arith)) (fits l.least l.left l.k (omega arith)).1
