@@ -141,4 +141,5 @@ empty_last f n [] e z = rw z (record { place = 0; here = refl; final = refl })
 empty_last f n (a ∷ x) e z = absurd (omega arith)
 
 pub ruleset first_written = (empty_first, first_is)
+
 pub ruleset last_written = (empty_last, last_is)

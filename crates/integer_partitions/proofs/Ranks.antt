@@ -3,8 +3,8 @@
 use mathlib.Core.Path.{◌≡◌, refl, sym, ◌∙◌, subst}
 use mathlib.Core.Bool.{true}
 use mathlib.Core.List.{[], ◌∷◌, ◌++◌, map, flat_map, append-nil, append_assoc}
-use Prim.Native.Nat.{ℕ, zero, suc, ◌+◌, ◌-◌, ◌*◌, ◌≤◌, ◌<◌}
-use native.Mathlib.Nat.{zero-add, suc-mul}
+use Prim.Native.Nat.{ℕ, suc, ◌+◌, ◌-◌, ◌*◌, ◌≤◌, ◌<◌}
+use native.Mathlib.Nat.{zero-add}
 use native.Mathlib.Numerals.{add-one}
 use native.Mathlib.Omega.{arith}
 use lib.ListN.{length, get_or, set, take, drop, length-set, length-map, drop_of_length-le}
@@ -22,7 +22,7 @@ use Rattle.listings.proofs.PlaceRules.{at_exists, at_member, at_append_right, at
 use Rattle.listings.proofs.Ranks.{at_rank, rank_below, place-is_rank}
 use Rattle.integer_partitions.specs.Objects.{is_integer_partition, integer_partition_before}
 use Rattle.integer_partitions.specs.Listing.{integer_partitions}
-use Rattle.integer_partitions.proofs.Facts.{partition_cases, Ends, snoc-cases, floor_total}
+use Rattle.integer_partitions.proofs.Facts.{partition_cases, snoc-cases, floor_total}
 use Rattle.integer_partitions.proofs.Theorem.{lists, counted}
 use Rattle.integer_partitions.proofs.Counts.{one_empty, few_above}
 

@@ -2,7 +2,6 @@
 -- Assumes nothing.
 use mathlib.Core.Path.{◌≡◌, refl}
 use mathlib.Core.List.{[]}
-use Prim.Native.Nat.{ℕ}
 use native.Mathlib.Nat.{mul-le-mul}
 use Rattle.basics.specs.Sums.{total}
 use Rattle.basics.proofs.Totals.{total_take_more, total-take-le}

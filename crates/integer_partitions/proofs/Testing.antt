@@ -8,7 +8,7 @@ use native.Mathlib.Omega.{arith}
 use lib.Dec.{eqb}
 use lib.ListN.{length, get_or, take}
 use lib.Seq.{take-suc}
-use borrow.Author.Tests.{eq-eqb, ne_eqb}
+use borrow.Author.Tests.{ne_eqb}
 use Rattle.basics.specs.Sums.{total}
 use Rattle.basics.proofs.Bools.{fails}
 use Rattle.listings.specs.Bytes.{Bytes}

@@ -1,5 +1,5 @@
 -- `next`: the first part that can go up does, and without one the partition is the last.
-use Rattle.std.proofs.Common.{◌+◌, ◌-◌, get_or, take, Some, arith}
+use Rattle.std.proofs.Common.{◌+◌, ◌-◌, get_or, take, arith}
 use Rattle.basics.specs.Sums.{total}
 use Rattle.listings.proofs.Stepping.{next-steps, next_ends}
 use Rattle.integer_partitions.proofs.Facts.{partition_cases, few}
