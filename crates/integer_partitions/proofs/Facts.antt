@@ -8,7 +8,7 @@ use native.Mathlib.Nat.{zero-mul, suc-mul, le-mul_of_pos_right}
 use native.Mathlib.Omega.{arith}
 use lib.Dec.{leb, eqb}
 use lib.ListN.{length, get_or, take, drop, length-append}
-use lib.Seq.{split_at, take-suc}
+use lib.Seq.{split_at}
 use borrow.Author.Tests.{leb-true, le-leb, eqb-true, eq-eqb}
 use Rattle.basics.specs.Sums.{total}
 use Rattle.basics.proofs.Bools.{and-true, and_makes}
@@ -89,12 +89,6 @@ snoc-cases f n k x p o =
     let size : length x ≡ k = omega arith in
     let sum : total x ≡ n - p = omega arith in
     record { from = c.low; within = omega arith; rest = rw (size, sum) at c.front }
-
--- the last of the first i parts
-pub last_of : (f n i : ℕ) (x : Bytes) → 0 < i → i ≤ length x → is_integer_partition f n i (take i x) ≡ true → Ends f n (i - 1) (take (i - 1) x) (get_or x (i - 1) 0)
-last_of f n i x pos within o =
-    let e : suc (i - 1) ≡ i = omega arith in
-    snoc-cases f n (i - 1) (take (i - 1) x) (get_or x (i - 1) 0) (rw (← take-suc x (i - 1) 0 (omega arith), e) o)
 
 pub snoc_makes : (f n k : ℕ) (x : Bytes) (p : ℕ) → Ends f n k x p → is_integer_partition f n (suc k) (x ++ (p ∷ [])) ≡ true
 unfolding descends

@@ -28,8 +28,8 @@ pub fn is_object(floor: u64, n: u64, k: u64, object: &[u8]) -> bool
     }
     let mut least = floor;
     let mut left = n;
-    for i in (0..object.len()).rev() {
-        let p = u64::from(object[i]);
+    for p in object.iter().rev() {
+        let p = u64::from(*p);
         if p < least || left < p {
             return false;
         }
