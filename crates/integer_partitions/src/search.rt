@@ -24,12 +24,12 @@ pub fn part_to_raise(object: &[u8]) -> Option<usize>
     None
 }
 
-// The part behind place i; the floor stands behind the last.
-fn behind(floor: u64, object: &[u8], i: usize) -> u64
+// The part behind place i, or the end behind the last.
+fn behind(object: &[u8], i: usize, end: u64) -> u64
     requires { i < length object.now }
-    ensures { result ≡ get_or object.now (i + 1) floor }
+    ensures { result ≡ get_or object.now (i + 1) end }
 {
-    object.get(i + 1).map_or(floor, |p| u64::from(*p))
+    object.get(i + 1).map_or(end, |p| u64::from(*p))
 }
 
 // The first place, from the second on, whose part is above the next, or above the floor at the last place.
@@ -38,7 +38,7 @@ pub fn part_to_lower(floor: u64, object: &[u8]) -> Option<usize>
     ensures { ToLower floor object.now result }
 {
     for i in 1..object.len() {
-        if behind(floor, object, i) < u64::from(object[i]) {
+        if behind(object, i, floor) < u64::from(object[i]) {
             return Some(i);
         }
     }

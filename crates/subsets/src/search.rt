@@ -1,17 +1,17 @@
 // The searches behind the steps and ranks of subsets: each reads, and answers a place or a number.
-ghost use Rattle.std.specs.Prelude.{◌≡◌, suc, ◌≤◌, ◌<◌, ◌^◌, length, get_or, MatchOption};
+ghost use Rattle.std.specs.Prelude.{◌≡◌, suc, ◌+◌, ◌≤◌, ◌<◌, ◌^◌, length, get_or, MatchOption};
 ghost use Rattle.basics.specs.Limits.{places};
 ghost use Rattle.numbers.specs.Numbers.{choose};
 ghost use Rattle.subsets.specs.Inner.Searches.{Tight, Low};
 
 use binomials::coefficient;
 
-// The number behind place i; n + 1 stands behind the last.
-fn behind(n: u64, object: &[u8], i: usize) -> u64
-    requires { (n ≤ places) × (i < length object.now) }
-    ensures { result ≡ get_or object.now (suc i) (suc n) }
+// The number behind place i, or the end behind the last.
+fn behind(object: &[u8], i: usize, end: u64) -> u64
+    requires { i < length object.now }
+    ensures { result ≡ get_or object.now (i + 1) end }
 {
-    object.get(i + 1).map_or(n + 1, |b| u64::from(*b))
+    object.get(i + 1).map_or(end, |b| u64::from(*b))
 }
 
 // The first place whose number leaves room below the next, or below n + 1 at the last place.
@@ -19,7 +19,7 @@ pub fn number_to_raise(n: u64, object: &[u8]) -> Option<usize>
     requires { n ≤ places }
     ensures { MatchOption result (Tight n object.now (length object.now)) (λ i. (i < length object.now) × (Tight n object.now i) × (suc (get_or object.now i 0) < get_or object.now (suc i) (suc n))) }
 {
-    (0..object.len()).find(|i| u64::from(object[*i]) + 1 < behind(n, object, *i))
+    (0..object.len()).find(|i| u64::from(object[*i]) + 1 < behind(object, *i, n + 1))
 }
 
 // The first place whose number is above the smallest it can be, its place counted from 1.
