@@ -4,7 +4,9 @@ pub mod Theorem
 pub mod Laws
 pub mod Places
 pub mod Neighbours
+pub mod Counts
 pub mod Ranks
 pub mod Testing
 pub mod Floors
 pub mod Small
+pub mod Sums

@@ -22,6 +22,7 @@ use Rattle.listings.proofs.Standing.{get_d_default}
 use Rattle.integer_partitions.specs.Objects.{descends, is_integer_partition}
 use Rattle.integer_partitions.specs.Listing.{integer_partitions}
 use Rattle.integer_partitions.specs.Inner.Searches.{ToRaise, ToLower}
+use Rattle.std.specs.Prelude.{None, Some}
 use Rattle.integer_partitions.proofs.Facts.{descends-cons, Cut, cut, floor_total}
 use Rattle.integer_partitions.proofs.Places.{level_first, full_last}
 
@@ -48,6 +49,12 @@ pub record Moved (x : Bytes) (i p s : ℕ) : Type 0 where
   pub sums : (s + p ≡ total (take i x) + get_or x i 0) × (s + p ≤ places)
   pub room : (s ≤ places) × (length (take i x) * p ≤ s)
   pub none : length (take i x) ≡ 0 → s ≡ 0
+
+pub none_rises : (f n : ℕ) (x : Bytes) → is_integer_partition f n (length x) x ≡ true → ToRaise x None → Last (integer_partitions f n (length x)) x
+none_rises f n x o full = full_last f n (length x) x o full
+
+pub none_falls : (f n : ℕ) (x : Bytes) → is_integer_partition f n (length x) x ≡ true → ToLower f x None → First (integer_partitions f n (length x)) x
+none_falls f n x o level = level_first f n (length x) x o (λ j l. omega (arith, level (suc j) l (omega arith), get_or-eq_default x f {n = length x} (omega arith)))
 
 module _ (f n i : ℕ) (x : Bytes) (o : is_integer_partition f n (length x) x ≡ true) where
   here : i < length x → Cut f n (length x) (take i x) (get_or x i 0) (drop (suc i) x)
@@ -77,50 +84,40 @@ module _ (f n i : ℕ) (x : Bytes) (o : is_integer_partition f n (length x) x �
 
   -- the first part that can go up does
 
-  pub none_rises : ToRaise x i → i ≡ length x → Last (integer_partitions f n (length x)) x
-  none_rises t e = full_last f n (length x) x o (λ j l. t.passed j (omega arith))
-
-  pub raised : n ≤ places → ToRaise x i → (i ≡ length x → ⊥) → Moved x i (get_or x i 0 + 1) (total (take i x) - 1)
-  raised most t more =
-      let h : i < length x = omega (arith, t.within, more) in
-      let found = t.found h in
+  pub raised : n ≤ places → ToRaise x (Some i) → Moved x i (get_or x i 0 + 1) (total (take i x) - 1)
+  raised most (h, full, found) =
       let room : length (take i x) * (get_or x i 0 + 1) ≤ total (take i x) - 1 = rw (size h) (omega arith) in
       record { inside = h; front = sym (size h); sums = omega (arith, here h); room = omega (arith, here h); none = λ e. omega (arith, total_end (take i x) 0 (omega arith)) }
 
-  pub raises : ToRaise x i → i < length x → (y : Bytes) → length y ≡ length (take i x) → First (integer_partitions (get_or x i 0 + 1) (total (take i x) - 1) (length (take i x))) y
+  pub raises : ToRaise x (Some i) → (y : Bytes) → length y ≡ length (take i x) → First (integer_partitions (get_or x i 0 + 1) (total (take i x) - 1) (length (take i x))) y
       → Follows (integer_partitions f n (length x)) x (set (y ++ drop i x) i (get_or x i 0 + 1))
-  raises t h y long start =
-      let more : suc (total (take i x) - 1) ≡ total (take i x) = omega (arith, t.found h) in
+  raises (h, full, found) y long start =
+      let more : suc (total (take i x) - 1) ≡ total (take i x) = omega arith in
       let end : Last (integer_partitions (get_or x i 0) (suc (total (take i x) - 1)) (length (take i x))) (take i x) =
       rw more
       (full_last (get_or x i 0) (total (take i x)) (length (take i x)) (take i x) (here h).front
-      (λ j l. let l' : j < i = omega (arith, size h) in rw (take-take j i x (le_of_lt l'), get_or-take i x j 0 l') (t.passed j l'))) in
+      (λ j l. let l' : j < i = omega (arith, size h) in rw (take-take j i x (le_of_lt l'), get_or-take i x j 0 l') (full j l'))) in
       rw (put y (get_or x i 0 + 1) long h, add-one)
       (subst (λ w. Follows (integer_partitions f n (length x)) w (y ++ (suc (get_or x i 0) ∷ drop (suc i) x))) (sym (split_at x i 0 h))
       (seam h (get_or x i 0) (total (take i x) - 1) (omega arith) (here h).low end (rw add-one at start)))
 
   -- the first part behind the first that can go down does
 
-  pub none-falls : ToLower f x i → i ≡ length x → First (integer_partitions f n (length x)) x
-  none-falls t e = level_first f n (length x) x o (λ j l. omega (arith, t.passed (suc j) (omega arith) (omega arith), get_or-eq_default x f {n = i} (omega arith)))
-
-  pub lowered : n ≤ places → ToLower f x i → (i ≡ length x → ⊥) → Moved x i (get_or x i 0 - 1) (total (take i x) + 1)
-  lowered most t more =
-      let h : i < length x = omega (arith, t.within, more) in
-      let found = t.found h in
+  pub lowered : n ≤ places → ToLower f x (Some i) → Moved x i (get_or x i 0 - 1) (total (take i x) + 1)
+  lowered most (h, level, pos, found) =
       let less : get_or x i 0 - 1 ≤ get_or x i 0 = omega arith in
       let room : length (take i x) * (get_or x i 0 - 1) ≤ total (take i x) = omega (arith, floor_total _ _ _ _ (here h).front, mul-le-mul_left (length (take i x)) less) in
       record { inside = h; front = sym (size h); sums = omega (arith, here h); room = omega (arith, here h); none = λ e. absurd (omega (arith, size h)) }
 
-  pub lowers : ToLower f x i → i < length x → (y : Bytes) → length y ≡ length (take i x) → Last (integer_partitions (get_or x i 0 - 1) (total (take i x) + 1) (length (take i x))) y
+  pub lowers : ToLower f x (Some i) → (y : Bytes) → length y ≡ length (take i x) → Last (integer_partitions (get_or x i 0 - 1) (total (take i x) + 1) (length (take i x))) y
       → Follows (integer_partitions f n (length x)) (set (y ++ drop i x) i (get_or x i 0 - 1)) x
-  lowers t h y long end =
-      let found = rw add-one at (t.found h) in
+  lowers (h, level, pos, found) y long end =
+      let below = rw add-one at found in
       let more : suc (get_or x i 0 - 1) ≡ get_or x i 0 = omega arith in
       let start : First (integer_partitions (suc (get_or x i 0 - 1)) (total (take i x)) (length (take i x))) (take i x) =
       rw more
       (level_first (get_or x i 0) (total (take i x)) (length (take i x)) (take i x) (here h).front
-      (λ j l. let l' : suc j < i = omega (arith, size h) in rw (get_or-take i x (suc j) 0 l') (omega (arith, t.passed (suc j) l' (omega arith), get_d_default x i 0 f h)))) in
+      (λ j l. let l' : suc j < i = omega (arith, size h) in rw (get_or-take i x (suc j) 0 l') (omega (arith, level (suc j) l' (omega arith), get_d_default x i 0 f h)))) in
       rw (put y (get_or x i 0 - 1) long h)
       (subst (Follows (integer_partitions f n (length x)) (y ++ ((get_or x i 0 - 1) ∷ drop (suc i) x))) (sym (split_at x i 0 h))
       (rw more at (seam h (get_or x i 0 - 1) (total (take i x)) (omega arith) (omega (arith, head-drop x (suc i) f)) (rw add-one at end) start)))

@@ -75,10 +75,10 @@ descends-replicate f a zero h = refl
 descends-replicate f a (suc m) h = descends_makes f a (replicate m a) (head-replicate m a f h) (descends-replicate f a m h)
 
 -- what FIRST writes
-pub first-is : (f n k : ℕ) → 0 < k → k * f ≤ n → First (integer_partitions f n k) (set (replicate k f) 0 (n - (k - 1) * f))
+pub first_is : (f n k : ℕ) → 0 < k → k * f ≤ n → First (integer_partitions f n k) (set (replicate k f) 0 (n - (k - 1) * f))
 unfolding total
-first-is f n zero pos h = absurd (omega arith)
-first-is f n (suc m) pos h =
+first_is f n zero pos h = absurd (omega arith)
+first_is f n (suc m) pos h =
     let room : m * f + f ≤ n = omega (arith, suc-mul m f) in
     let less : suc m - 1 ≡ m = omega arith in
     rw less
@@ -105,8 +105,8 @@ total-take-le b [] i most = omega (arith, ap total (take-nil {A = ℕ} i))
 total-take-le b (a ∷ x) zero most = omega arith
 total-take-le b (a ∷ x) (suc i) most = omega (arith, most 0 (omega arith), total-take-le b x i (λ j h. most (suc j) (omega arith)), suc-mul i b)
 
-pub last-is : (f n k : ℕ) → 0 < k → k * f ≤ n → Last (integer_partitions f n k) (replicate (n % k) (n / k + 1) ++ drop (n % k) (replicate k (n / k)))
-last-is f n k pos h =
+pub last_is : (f n k : ℕ) → 0 < k → k * f ≤ n → Last (integer_partitions f n k) (replicate (n % k) (n / k + 1) ++ drop (n % k) (replicate k (n / k)))
+last_is f n k pos h =
     let q : ℕ = n / k in
     let r : ℕ = n % k in
     let t : ℕ = k - r in
@@ -129,7 +129,17 @@ last-is f n k pos h =
     omega (arith, total-take-le (suc q) x j (λ i k. (near q r t i (omega arith)).1), mul-le-mul_left j here)))
 
 -- without parts there is the empty partition of 0 alone
-pub empty_ends : (f n : ℕ) (x : Bytes) → length x ≡ 0 → n ≡ 0 → First (integer_partitions f n (length x)) x × Last (integer_partitions f n (length x)) x
+
+pub empty_first : (f n : ℕ) (x : Bytes) → length x ≡ 0 → n ≡ 0 → First (integer_partitions f n (length x)) x
 unfolding integer_partitions
-empty_ends f n [] e z = rw z (refl, record { place = 0; here = refl; final = refl })
-empty_ends f n (a ∷ x) e z = absurd (omega arith)
+empty_first f n [] e z = rw z refl
+empty_first f n (a ∷ x) e z = absurd (omega arith)
+
+pub empty_last : (f n : ℕ) (x : Bytes) → length x ≡ 0 → n ≡ 0 → Last (integer_partitions f n (length x)) x
+unfolding integer_partitions
+empty_last f n [] e z = rw z (record { place = 0; here = refl; final = refl })
+empty_last f n (a ∷ x) e z = absurd (omega arith)
+
+pub ruleset first_written = (empty_first, first_is)
+
+pub ruleset last_written = (empty_last, last_is)

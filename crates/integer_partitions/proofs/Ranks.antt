@@ -1,10 +1,10 @@
 -- Where a partition with the last part p stands: behind those with a smaller last part, by the place of its other parts. And what holds at
 -- each turn of RANK's and UNRANK's loops, which go from the last part to the first. Assumes nothing.
-use mathlib.Core.Path.{◌≡◌, refl, ◌∙◌, subst}
+use mathlib.Core.Path.{◌≡◌, refl, sym, ◌∙◌, subst}
 use mathlib.Core.Bool.{true}
 use mathlib.Core.List.{[], ◌∷◌, ◌++◌, map, flat_map, append-nil, append_assoc}
-use Prim.Native.Nat.{ℕ, zero, suc, ◌+◌, ◌-◌, ◌*◌, ◌≤◌, ◌<◌}
-use native.Mathlib.Nat.{zero-add, suc-mul}
+use Prim.Native.Nat.{ℕ, suc, ◌+◌, ◌-◌, ◌*◌, ◌≤◌, ◌<◌}
+use native.Mathlib.Nat.{zero-add}
 use native.Mathlib.Numerals.{add-one}
 use native.Mathlib.Omega.{arith}
 use lib.ListN.{length, get_or, set, take, drop, length-set, length-map, drop_of_length-le}
@@ -22,8 +22,9 @@ use Rattle.listings.proofs.PlaceRules.{at_exists, at_member, at_append_right, at
 use Rattle.listings.proofs.Ranks.{at_rank, rank_below, place-is_rank}
 use Rattle.integer_partitions.specs.Objects.{is_integer_partition, integer_partition_before}
 use Rattle.integer_partitions.specs.Listing.{integer_partitions}
-use Rattle.integer_partitions.proofs.Facts.{partition_cases, Ends, snoc-cases, floor_total}
+use Rattle.integer_partitions.proofs.Facts.{partition_cases, snoc-cases, floor_total}
 use Rattle.integer_partitions.proofs.Theorem.{lists, counted}
+use Rattle.integer_partitions.proofs.Counts.{one_empty, few_above}
 
 at_last_part : (k f n p r : ℕ) {x : Bytes} → f ≤ p → p ≤ n → At (integer_partitions p (n - p) k) x r
     → At (integer_partitions f n (suc k)) (x ++ (p ∷ [])) (parts_from f n (suc k) - parts_from p n (suc k) + r)
@@ -44,12 +45,6 @@ above_floor k f n r h at =
     let front : Bytes → Bytes = λ y. y ++ (f ∷ []) in
     rw (size, ← counted f (n - f) k, ← length-map (integer_partitions f (n - f) k) front) (at_append_right (map front (integer_partitions f (n - f) k)) (integer_partitions (suc f) n (suc k)) r at)
 
--- without parts there is at most one
-one_empty : (f n : ℕ) → parts_from f n 0 ≤ 1
-unfolding parts_from
-one_empty f zero = omega arith
-one_empty f (suc n) = omega arith
-
 -- the rank, from the last part on: r is what the parts behind the first k make of it
 
 pub record Ranking (F N : ℕ) (x : Bytes) (r f n k : ℕ) : Type 0 where
@@ -62,25 +57,28 @@ ranking F N x pos o =
     let all : take (length x) x ≡ x = take_all (length x) x (omega arith) in
     record { bounds = omega arith; parts = rw all o; sum = rw all (zero-add _) }
 
-module _ {F N r f n k : ℕ} {x : Bytes} (h : Ranking F N x r f n k) (pos : 0 < k) where
-  one_more : suc (k - 1) ≡ k
-  one_more = omega arith
+-- the last of the k parts that are left, p, behind all but one of them
+pub record Turn (F N r f n k end p : ℕ) (x : Bytes) : Type 0 where
+  pub floors : (0 < f) × (f ≤ p) × (p ≤ n) × (n ≤ N)
+  pub fits : r + (parts_from f n k - parts_from p n k) < parts_from F N (length x)
+  pub next : Ranking F N x (r + (parts_from f n k - parts_from p n k)) p (n - p) end
 
-  pub last_of : Ends f n (k - 1) (take (k - 1) x) (get_or x (k - 1) 0)
-  last_of = snoc-cases f n (k - 1) (take (k - 1) x) (get_or x (k - 1) 0) (rw (← take-suc x (k - 1) 0 (omega (arith, h.bounds)), one_more) h.parts)
-
-  pub ranking_on : {p s : ℕ} → p ≡ get_or x (k - 1) 0 → s ≡ parts_from f n k - parts_from p n k → Ranking F N x (r + s) p (n - p) (k - 1)
-  ranking_on {p} {s} e g =
-      let ends : Ends f n (k - 1) (take (k - 1) x) p = rw e last_of in
-      let at = at_last_part (k - 1) f n p _ ends.from ends.within (at_rank (lists p (n - p) (k - 1)) (take (k - 1) x) ends.rest) in
-      record {
-        bounds = omega (arith, h.bounds);
-        parts = ends.rest;
-        sum = omega (arith, h.sum, place-is_rank (lists f n k) _ (rw (e, ← take-suc x (k - 1) 0 (omega (arith, h.bounds)), one_more, ← e) at at));
-      }
+pub turn : {F N r f n i : ℕ} {x : Bytes} → Ranking F N x r f n i → is_integer_partition F N (length x) x ≡ true → (k end p : ℕ) → i ≡ suc end → k ≡ suc end → p ≡ get_or x end 0
+    → Turn F N r f n k end p x
+turn {F} {N} {r} {f} {n} {i} {x} h o k end p e g b =
+    let left : Ranking F N x r f n k = rw (e ∙ sym g) at h in
+    let split : take k x ≡ take end x ++ (p ∷ []) = rw (g, b) (take-suc x end 0 (omega (arith, left.bounds))) in
+    let ends = snoc-cases f n end (take end x) p (rw (split, g) at left.parts) in
+    let here = at_last_part end f n p _ ends.from ends.within (at_rank (lists p (n - p) end) (take end x) ends.rest) in
+    let place = place-is_rank (lists f n k) _ (rw (← g, ← split) at here) in
+    record {
+      floors = omega (arith, left.bounds, ends);
+      fits = omega (arith, left.sum, place, rank_below (lists F N (length x)) x o, counted F N (length x));
+      next = record { bounds = omega (arith, left.bounds); parts = ends.rest; sum = omega (arith, left.sum, place) };
+    }
 
 pub ranked : {F N r f n : ℕ} {x : Bytes} → Ranking F N x r f n 0 → r ≡ count_before integer_partition_before x (integer_partitions F N (length x))
-ranked {F} {N} {r} {f} {n} {x} h = omega (arith, h.sum, rank_below (lists f n 0) [] h.parts, counted f n 0, one_empty f n)
+ranked {F} {N} {r} {f} {n} {x} h = omega (arith, h.sum, rank_below (lists f n 0) [] h.parts, counted f n 0, one_empty f n 0 refl)
 
 -- the object of a rank R, written from the last part on: whatever has the rank r among those that can stand in front of what is written makes it
 
@@ -103,14 +101,9 @@ fits f n k some =
     let p = partition_cases f n k x o in
     (floor_total f n k x o, λ e. omega (arith, total_end x 0 (omega arith)))
 
--- behind the first there are parts left, and the floor is at most the sum
-pub more : (k f n r : ℕ) → 0 < r → r < parts_from f n k → (0 < k) × (f ≤ n)
-more zero f n r pos low = absurd (omega (arith, one_empty f n))
-more (suc k) f n r pos low = (omega arith, omega (arith, fits f n (suc k) (omega arith), suc-mul k f))
-
 module _ {K F N R r f n k here : ℕ} {x : Bytes} (u : Unranking K F N R r f n k x) (pos : 0 < r) (c : here ≡ parts_from f (n - f) (k - 1)) where
   left : (suc (k - 1) ≡ k) × (f ≤ n)
-  left = let (some, low) = more k f n r pos u.below in (omega arith, low)
+  left = grind (arith, u.below, one_empty f n k, few_above f n k)
 
   -- the rank is among those that end with the floor
   pub ends_here : r < here → Unranking K F N R r f (n - f) (k - 1) (set x (k - 1) f)

@@ -1,62 +1,45 @@
--- The test of a partition from its last part on: what it knows when it has passed some parts, and what it finds.
+-- The test of a partition from its last part on: what is still to be tested is the same test of the parts in front, over the last part and with what
+-- it leaves of the sum.
 -- Assumes nothing.
-use mathlib.Core.Path.{◌≡◌, sym, ◌∙◌, ap}
+use mathlib.Core.Path.{◌≡◌}
 use mathlib.Core.Bool.{true, false, and-true as and-with-true}
-use mathlib.Core.List.{◌∷◌}
-use Prim.Native.Nat.{ℕ, zero, suc, ◌+◌, ◌-◌, ◌≤◌, ◌<◌}
+use mathlib.Core.List.{[], ◌∷◌, ◌++◌}
+use Prim.Native.Nat.{ℕ, ◌+◌, ◌-◌, ◌≤◌, ◌<◌}
+use native.Mathlib.Numerals.{add-one}
 use native.Mathlib.Omega.{arith}
 use lib.Dec.{eqb}
-use lib.ListN.{length, get_or, drop, get_or-eq_default}
-use lib.Seq.{drop-cons, drop-length}
-use borrow.Author.Tests.{eq-eqb, ne_eqb}
+use lib.ListN.{length}
+use Rattle.std.specs.Cmp.{both_ways}
+use Rattle.std.proofs.lemmas.Bool.Decides.{nat_tests}
 use Rattle.basics.specs.Sums.{total}
 use Rattle.basics.proofs.Bools.{fails}
-use Rattle.basics.proofs.Lists.{head-drop}
 use Rattle.listings.specs.Bytes.{Bytes}
-use Rattle.listings.proofs.Standing.{get_d_default}
 use Rattle.integer_partitions.specs.Objects.{descends, is_integer_partition}
-use Rattle.integer_partitions.proofs.Facts.{descends_makes, cut}
+use Rattle.integer_partitions.proofs.Facts.{partition_cases, Ends, snoc-cases, snoc_makes}
 
--- of k parts those from place i on descend to the floor, and `left` of the sum remains
-pub record Tested (f n k : ℕ) (x : Bytes) (least left i : ℕ) : Type 0 where
-  pub size : length x ≡ k
-  pub inside : i ≤ length x
-  pub sum : total (drop i x) + left ≡ n
-  pub next : least ≡ get_or x i f
-  pub down : descends f (drop i x) ≡ true
+pub other_length : (f n k : ℕ) (x : Bytes) → (length x ≡ k → ⊥) → is_integer_partition f n k x ≡ false
+other_length f n k x h = fails (is_integer_partition f n k x) (λ o. h (partition_cases f n k x o).size)
 
-pub tested_none : (f n k : ℕ) (x : Bytes) → length x ≡ k → Tested f n k x f n (length x)
-unfolding descends total
-tested_none f n k x size =
-    record { size = size; inside = omega arith; sum = rw (drop-length x) (omega arith); next = sym (get_or-eq_default x f (omega arith)); down = rw (drop-length x) }
+-- by the last part, p, of k
 
--- the part in front of them
-module _ {f n k least left i p : ℕ} {x : Bytes} (t : Tested f n k x least left i) (pos : 0 < i) (e : p ≡ get_or x (i - 1) 0) where
-  turn : Tested f n k x least left (suc (i - 1))
-  turn = let more : suc (i - 1) ≡ i = omega arith in rw more t
+module _ (f n k p : ℕ) (y : Bytes) (size : k ≡ length y + 1) where
+  last_of : is_integer_partition f n k (y ++ (p ∷ [])) ≡ true → Ends f n (length y) y p
+  last_of o = snoc-cases f n (length y) y p (rw (size, add-one (length y)) at o)
 
-  pub too_low : p < least → false ≡ is_integer_partition f n k x
-  too_low h = sym (fails (is_integer_partition f n k x) (λ o. omega (arith, turn.next, cut f n k (i - 1) x o turn.inside, head-drop x (suc (i - 1)) f)))
+  pub too_low : p < f → is_integer_partition f n k (y ++ (p ∷ [])) ≡ false
+  too_low h = fails (is_integer_partition f n k (y ++ (p ∷ []))) (λ o. omega (arith, last_of o))
 
-  pub too_large : left < p → false ≡ is_integer_partition f n k x
-  too_large h = sym (fails (is_integer_partition f n k x) (λ o. omega (arith, turn.sum, cut f n k (i - 1) x o turn.inside)))
+  pub too_large : n < p → is_integer_partition f n k (y ++ (p ∷ [])) ≡ false
+  too_large h = fails (is_integer_partition f n k (y ++ (p ∷ []))) (λ o. omega (arith, last_of o))
 
-  pub tested_more : least ≤ p → p ≤ left → Tested f n k x p (left - p) (i - 1)
-  unfolding total
-  tested_more low h =
-      let d : drop (i - 1) x ≡ p ∷ drop (suc (i - 1)) x = rw e (drop-cons x (i - 1) 0 turn.inside) in
-      record {
-        size = t.size;
-        inside = omega (arith, t.inside);
-        sum = omega (arith, turn.sum, ap total d);
-        next = e ∙ get_d_default x (i - 1) 0 f turn.inside;
-        down = rw d (descends_makes f p (drop (suc (i - 1)) x) (omega (arith, turn.next, head-drop x (suc (i - 1)) f)) turn.down);
-      }
+  pub goes_on : f ≤ p → p ≤ n → is_integer_partition f n k (y ++ (p ∷ [])) ≡ is_integer_partition p (n - p) (length y) y
+  goes_on low high =
+      both_ways _ _ (λ o. (last_of o).rest)
+      (λ o. rw (size, add-one (length y)) (snoc_makes f n (length y) y p (record { from = low; within = high; rest = o })))
 
-none_left : (s n left : ℕ) → s + left ≡ n → eqb left 0 ≡ eqb s n
-none_left s n zero e = sym (eq-eqb s n (omega arith))
-none_left s n (suc left) e = ne_eqb (suc left) 0 (λ q. omega arith) ∙ sym (ne_eqb s n (λ q. omega arith))
+pub ends : (f n k : ℕ) (x : Bytes) → length x ≡ 0 → k ≡ 0 → is_integer_partition f n k x ≡ eqb n 0
+unfolding is_integer_partition descends total
+ends f n k [] h e = rw (e, and-with-true (eqb 0 n)) (grind (arith, nat_tests))
+ends f n k (a ∷ x) h e = absurd (omega arith)
 
-pub tested_all : {f n k least left : ℕ} {x : Bytes} → Tested f n k x least left 0 → eqb left 0 ≡ is_integer_partition f n k x
-unfolding is_integer_partition
-tested_all {f} {n} {k} {least} {left} {x} t = rw (eq-eqb (length x) k t.size, t.down, and-with-true (eqb (total x) n)) (none_left (total x) n left t.sum)
+pub ruleset test_steps = (other_length, too_low, too_large, goes_on, ends)

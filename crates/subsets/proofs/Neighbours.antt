@@ -10,7 +10,7 @@ use native.Mathlib.Omega.{arith}
 use lib.ListN.{length, take, drop, get_or, set, length-drop, get_or-eq_default}
 use lib.Seq.{take-length, take-suc, append_snoc, split_at}
 use Rattle.basics.specs.Sums.{range}
-use Rattle.basics.proofs.Lists.{head-drop, front_long, same-long, refilled}
+use Rattle.basics.proofs.Lists.{head-drop, front_long, refilled}
 use Rattle.basics.proofs.Ranges.{range_snoc}
 use Rattle.listings.specs.Bytes.{Bytes}
 use Rattle.listings.specs.Places.{First, Last}
@@ -21,6 +21,7 @@ use Rattle.listings.proofs.Standing.{get_d_default}
 use Rattle.listings.proofs.Stepping.{steps}
 use Rattle.subsets.specs.Objects.{climbs, is_subset, subset_before}
 use Rattle.subsets.specs.Listing.{subsets}
+use Rattle.subsets.specs.Inner.Searches.{Tight, Low}
 use Rattle.subsets.proofs.Facts.{climbs-cases, subset_cases}
 use Rattle.subsets.proofs.Theorem.{lists}
 use Rattle.subsets.proofs.Places.{last-number, inside-number, seam_number, lowest_first, highest_last}
@@ -72,9 +73,6 @@ module _ {up : Bool} {n i v from : ℕ} {x : Bytes} (m : Move up n i v from x) w
   pub lent : length (take i (set x i v)) ≡ i
   lent = front_long x i v m.within
 
-  pub as_long : (part : Bytes) → length part ≡ length (take i (set x i v)) → length (part ++ drop i (set x i v)) ≡ length x
-  as_long part e = same-long x i v m.within part e
-
   pub moves : {part : Bytes} → part ≡ range from (length (take i (set x i v))) → ◌≡◌ {A = Said} (STEPPED, part ++ drop i (set x i v)) (act (step_call up) subset_before (subsets n (length x)) x)
   moves e = ap {B = Said} (λ y. (STEPPED, y)) (refilled x i v m.within from e) ∙ steps (lists n (length x)) m.beside
 
@@ -99,10 +97,7 @@ module _ (n : ℕ) (x : Bytes) (o : is_subset n (length x) x ≡ true) where
 
   -- none of the first r numbers can go up: they are the last of the numbers below m + 1, which stands behind them
 
-  abbrev Tight : ℕ → Type 0
-  Tight r = (i : ℕ) → i < r → get_or x (suc i) (suc n) ≤ suc (get_or x i 0)
-
-  packed : (r m : ℕ) → r ≤ length x → Tight r → get_or x r (suc n) ≡ suc m → Last (subsets m r) (take r x)
+  packed : (r m : ℕ) → r ≤ length x → Tight n x r → get_or x r (suc n) ≡ suc m → Last (subsets m r) (take r x)
   unfolding subsets
   packed zero m within tight e = record { place = 0; here = refl; final = refl }
   packed (suc r) m within tight e =
@@ -111,10 +106,10 @@ module _ (n : ℕ) (x : Bytes) (o : is_subset n (length x) x ≡ true) where
       let f : get_or x r 0 ≡ suc c = omega (arith, h.low, h.next, tight r (omega arith)) in
       rw (take-suc x r 0 within, f) (last-number m r c (omega (arith, h.next, f)) (packed r c (omega arith) (λ i k. tight i (omega arith)) (get_d_default x r (suc n) 0 within ∙ f)))
 
-  pub none_to_raise : Tight (length x) → Edge true (subsets n (length x)) x
+  pub none_to_raise : Tight n x (length x) → Edge true (subsets n (length x)) x
   none_to_raise tight = latest (rw take-length at (packed (length x) n (omega arith) tight (get_or-eq_default x (suc n) (omega arith))))
 
-  pub number-raised : (r : ℕ) → r < length x → Tight r → suc (get_or x r 0) < get_or x (suc r) (suc n) → Move true n r (get_or x r 0 + 1) 1 x
+  pub number-raised : (r : ℕ) → r < length x → Tight n x r → suc (get_or x r 0) < get_or x (suc r) (suc n) → Move true n r (get_or x r 0 + 1) 1 x
   number-raised r within tight free =
       let c = pred (get_or x r 0) in
       let m : ℕ = pred (get_or x (suc r) (suc n)) in
@@ -125,24 +120,21 @@ module _ (n : ℕ) (x : Bytes) (o : is_subset n (length x) x ≡ true) where
 
   -- none of the first r numbers can go down: they are the first
 
-  abbrev Low : ℕ → Type 0
-  Low r = (i : ℕ) → i < r → get_or x i 0 ≤ suc i
-
-  lowest : (r : ℕ) → r ≤ length x → Low r → take r x ≡ range 1 r
+  lowest : (r : ℕ) → r ≤ length x → Low x r → take r x ≡ range 1 r
   unfolding range
   lowest zero within low = refl
   lowest (suc r) within low =
       let e : get_or x r 0 ≡ suc r = omega (arith, low r (omega arith), (here 0 n r x climbing within).low) in
       take-suc x r 0 within ∙ ap₂ (λ y c. y ++ (c ∷ [])) (lowest r (omega arith) (λ i k. low i (omega arith))) (e ∙ sym (one-add r)) ∙ sym (range_snoc 1 r)
 
-  pub none_to_lower : Low (length x) → Edge false (subsets n (length x)) x
+  pub none_to_lower : Low x (length x) → Edge false (subsets n (length x)) x
   none_to_lower low = earliest (subst (First (subsets n (length x))) (sym (lowest (length x) (omega arith) low) ∙ take-length x) (lowest_first n (length x) (room n x climbing)))
 
-  pub number-lowered : (r b : ℕ) → r < length x → Low r → get_or x r 0 ≡ suc (suc (b + r)) → Move false n r (get_or x r 0 - 1) (get_or x r 0 - 1 - r) x
+  pub number-lowered : (r b : ℕ) → r < length x → Low x r → get_or x r 0 ≡ suc (suc (b + r)) → Move false n r (get_or x r 0 - 1) (get_or x r 0 - 1 - r) x
   number-lowered r b within low e =
       let m : ℕ = pred (get_or x (suc r) (suc n)) in
       let h = here 0 n r x climbing within in
       let top : get_or x r 0 - 1 ≡ suc (b + r) = omega arith in
       let from : get_or x r 0 - 1 - r ≡ suc b = omega arith in
       moved r (get_or x r 0 - 1) (get_or x r 0 - 1 - r) within
-      (before (rw (from, top, e, lowest r (omega arith) low) (seam_number m r (b + r) (omega (arith, h.next)) (highest_last (b + r) b r refl) (lowest_first (suc (b + r)) r (omega arith)))))
+      (before (rw (from, top, e, lowest r (omega arith) low) (seam_number m r (b + r) (omega (arith, h.next)) (highest_last (b + r) (suc b) r (omega arith) (omega arith)) (lowest_first (suc (b + r)) r (omega arith)))))

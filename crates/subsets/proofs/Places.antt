@@ -52,8 +52,9 @@ lowest_first n (suc k) h =
     rw (range_snoc 1 k, one-add)
     (subst (At (subsets n (suc k)) (range 1 k ++ (suc k ∷ []))) (omega (arith, choose-none k (suc k) (omega arith))) (at_number n k k 0 h (lowest_first k k (le_refl k))))
 
--- the last: b + 1, .., b + k out of 1 to b + k
-pub highest_last : (n b k : ℕ) → n ≡ b + k → Last (subsets n k) (range (suc b) k)
+-- the last: a, a + 1, .., n
+pub highest_last : (n a k : ℕ) → 0 < a → a + k ≡ n + 1 → Last (subsets n k) (range a k)
 unfolding subsets range
-highest_last n b zero e = record { place = 0; here = refl; final = refl }
-highest_last n b (suc k) e = rw (range_snoc (suc b) k, suc-add) (last-number n k (b + k) (omega arith) (highest_last (b + k) b k refl))
+highest_last n zero k pos e = absurd (omega arith)
+highest_last n (suc b) zero pos e = record { place = 0; here = refl; final = refl }
+highest_last n (suc b) (suc k) pos e = rw (range_snoc (suc b) k, suc-add) (last-number n k (b + k) (omega arith) (highest_last (b + k) (suc b) k (omega arith) (omega arith)))

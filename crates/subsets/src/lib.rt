@@ -12,12 +12,12 @@ ghost use Rattle.subsets.specs.Listing.{subsets};
 
 mod search;
 
-use basics::wide;
 use binomials::coefficient;
 use listings::{Step, fill_up};
 use search::{largest_top, number_to_lower, number_to_raise};
 
 // Does the slice hold a subset of k out of 1 to n?
+#[tactic(auto, using(crate::proofs::Testing::test_steps))]
 pub fn is_object(n: u64, k: u64, object: &[u8]) -> bool
     ensures { result ≡ is_subset n k object.now }
 {
@@ -25,22 +25,18 @@ pub fn is_object(n: u64, k: u64, object: &[u8]) -> bool
         return false;
     }
     let mut last: u64 = 0;
-    let mut i = 0;
-    while i < object.len() {
-        let b = wide(object[i]);
-        if b <= last {
-            return false;
-        }
-        if n < b {
+    for b in object {
+        let b = u64::from(*b);
+        if b <= last || n < b {
             return false;
         }
         last = b;
-        i += 1;
     }
     true
 }
 
 // The earliest: 1, 2, .., k.
+#[tactic(auto, using(crate::proofs::Places::lowest_first))]
 pub fn first(n: u64, object: &mut [u8])
     requires { (n ≤ places) × (length object.old ≤ n) }
     ensures { First (subsets n (length object.old)) object.new }
@@ -49,6 +45,7 @@ pub fn first(n: u64, object: &mut [u8])
 }
 
 // The latest: n - k + 1, .., n.
+#[tactic(auto, using(crate::proofs::Places::highest_last))]
 pub fn last(n: u64, object: &mut [u8])
     requires { (n ≤ places) × (length object.old ≤ n) }
     ensures { Last (subsets n (length object.old)) object.new }
@@ -63,10 +60,9 @@ pub fn next(n: u64, object: &mut [u8]) -> Step
     requires { (n ≤ places) × (is_subset n (length object.old) object.old ≡ true) }
     ensures { ◌≡◌ {A = Said} (step_as result, object.new) (act NEXT subset_before (subsets n (length object.old)) object.old) }
 {
-    let i = number_to_raise(n, object);
-    if i == object.len() {
+    let Some(i) = number_to_raise(n, object) else {
         return Step::End;
-    }
+    };
     object[i] += 1;
     fill_up(&mut object[..i], 1);
     Step::Moved
@@ -77,10 +73,9 @@ pub fn previous(n: u64, object: &mut [u8]) -> Step
     requires { (n ≤ places) × (is_subset n (length object.old) object.old ≡ true) }
     ensures { ◌≡◌ {A = Said} (step_as result, object.new) (act PREVIOUS subset_before (subsets n (length object.old)) object.old) }
 {
-    let i = number_to_lower(object);
-    if i == object.len() {
+    let Some(i) = number_to_lower(object) else {
         return Step::End;
-    }
+    };
     let top = object[i] - 1;
     object[i] = top;
     let from = top - (i as u8);
@@ -97,12 +92,9 @@ pub fn rank(n: u64, object: &[u8]) -> u64
     ensures { result ≡ count_before subset_before object.now (subsets n (length object.now)) }
 {
     let mut before = 0;
-    let mut place = object.len();
-    while 0 < place {
-        let i = place - 1;
-        let below = wide(object[i]) - 1;
-        before += coefficient(below, place as u64);
-        place -= 1;
+    for i in (0..object.len()).rev() {
+        let below = u64::from(object[i]) - 1;
+        before += coefficient(below, i as u64 + 1);
     }
     before
 }
@@ -114,14 +106,12 @@ pub fn unrank(rank: u64, n: u64, object: &mut [u8])
     requires rank_bound { rank < choose n (length object.old) }
     ensures { At (subsets n (length object.old)) object.new rank }
 {
-    let k = object.len();
-    if k == 0 {
-        return;
+    let mut rest = rank;
+    let mut top = n;
+    for end in (0..object.len()).rev() {
+        let found = largest_top(rest, top, end as u64 + 1);
+        rest -= found.below;
+        top = found.top;
+        object[end] = (top + 1) as u8;
     }
-    let end = k - 1;
-    let found = largest_top(rank, n, k as u64);
-    let top = found.0;
-    let rest = rank - found.1;
-    object[end] = (top + 1) as u8;
-    unrank(rest, top, &mut object[..end]);
 }
