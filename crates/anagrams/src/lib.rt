@@ -15,16 +15,15 @@ mod letters;
 pub mod permutations;
 mod stepping;
 
-use listings::{Step, copied, fill_with};
+use listings::{Step, copied};
 
 // Does the slice hold a word of these letters?
 pub fn is_object(counts: &[u8], object: &[u8]) -> bool
     requires { length counts.now ≤ places }
     ensures { result ≡ is_anagram counts.now object.now }
 {
-    let mut space = copied(counts);
-    let n = counts.len();
-    letters::spend_all(&mut space[..n], object)
+    let mut left = copied(counts);
+    letters::spend_all(&mut left[..counts.len()], object)
 }
 
 // The earliest: the letters in ascending order.
@@ -32,13 +31,11 @@ pub fn first(counts: &[u8], object: &mut [u8])
     requires { (length counts.now ≤ places) × (length object.old ≡ total counts.now) }
     ensures { First (anagrams counts.now) object.new }
 {
-    let mut at = 0;
-    let mut i = 0;
-    while i < counts.len() {
-        let end = at + (counts[i] as usize);
-        fill_with(&mut object[at..end], (i + 1) as u8);
-        at = end;
-        i += 1;
+    let mut start = 0;
+    for (i, count) in counts.iter().enumerate() {
+        let end = start + usize::from(*count);
+        object[start..end].fill((i + 1) as u8);
+        start = end;
     }
 }
 
@@ -48,7 +45,7 @@ pub fn last(counts: &[u8], object: &mut [u8])
     ensures { Last (anagrams counts.now) object.new }
 {
     first(counts, object);
-    stepping::turn_round(object);
+    object.reverse();
 }
 
 // The word just after, whatever its letters are.
