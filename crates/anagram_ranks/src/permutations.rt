@@ -30,9 +30,8 @@ pub fn rank(object: &[u8]) -> u64
     requires object_bound { factorial_of (length object.now) < 2 ^ 64 }
     ensures { result ≡ count_before anagram_before object.now (permutations (length object.now)) }
 {
-    let mut left = all_ones();
     let n = object.len();
-    rank_of(&mut left[..n], all_permutations(n), object)
+    rank_of(&mut all_ones()[..n], all_permutations(n), object)
 }
 
 // Makes letter a free: the letters of the part from a on go up by one.

@@ -1,5 +1,6 @@
 // Kind 2: anagrams, the words with letter i (from 1) as often as counts[i - 1] says, over lent byte slices. Called by `families`, which
-// shows what each function requires. Nothing here counts them: the ranks are in `anagram_ranks`.
+// shows what each function requires: the counts are the bytes that C lends, so no type of ours can carry what is known of them. Nothing here
+// counts the words: the ranks are in `anagram_ranks`.
 #![tactic(auto)]
 
 ghost use Rattle.std.specs.Prelude.{◌≡◌, true, List, ℕ, ◌≤◌, length};
@@ -22,8 +23,7 @@ pub fn is_object(counts: &[u8], object: &[u8]) -> bool
     requires { length counts.now ≤ places }
     ensures { result ≡ is_anagram counts.now object.now }
 {
-    let mut left = copied(counts);
-    letters::spend_all(&mut left[..counts.len()], object)
+    letters::spend_all(&mut copied(counts)[..counts.len()], object)
 }
 
 // The earliest: the letters in ascending order.

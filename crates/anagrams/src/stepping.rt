@@ -9,7 +9,8 @@ ghost use Rattle.anagrams.specs.Inner.Directions.{precedes_by, Spent, NoneBeyond
 
 use listings::Step;
 
-// Does a come before b, or, going back, after it?
+// Does a come before b, or, going back, after it? The direction is a bool all along: in its place a closure would bring its law, that it
+// answers `precedes_by`, into the contract of each function that it passes through.
 #[tactic(auto, unfolding(crate::specs::Inner::Directions::precedes_by))]
 fn precedes(a: u8, b: u8, up: bool) -> bool
     ensures { result ≡ precedes_by up a b }
