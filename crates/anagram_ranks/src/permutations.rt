@@ -10,17 +10,15 @@ ghost use Rattle.anagram_ranks.specs.Inner.Raised.{raised};
 
 use crate::ranking::rank_of;
 use anagrams::permutations::all_ones;
-use counting::{Count, factorial};
+use counting::factorial;
 
 // The number of permutations of n, where it fits.
+#[tactic(auto, using(crate::proofs::Counts::answer_is_exact))]
 fn all_permutations(n: usize) -> u64
     requires { (n ≤ places) × (factorial_of n < 2 ^ 64) }
     ensures { result ≡ factorial_of n }
 {
-    let Count::Exactly(v) = factorial(n as u64) else {
-        return 0;
-    };
-    v
+    factorial(n as u64).unwrap()
 }
 
 // How many permutations come before it.

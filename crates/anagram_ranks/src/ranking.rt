@@ -9,17 +9,15 @@ ghost use Rattle.anagrams.specs.Objects.{is_anagram, anagram_before};
 ghost use Rattle.anagrams.specs.Listing.{anagrams};
 
 use basics::sum;
-use counting::{Count, multinomial};
+use counting::multinomial;
 
 // The number of words, where it fits.
+#[tactic(auto, using(crate::proofs::Counts::answer_is_exact))]
 pub fn all_words(counts: &[u8]) -> u64
     requires { (total counts.now ≤ places) × (multinomial_of counts.now < 2 ^ 64) }
     ensures { result ≡ multinomial_of counts.now }
 {
-    let Count::Exactly(v) = multinomial(counts) else {
-        return 0;
-    };
-    v
+    multinomial(counts).unwrap()
 }
 
 // How often each letter is left, how many letters that are, and how many words they make.
