@@ -82,29 +82,29 @@ pub letters_small : {rank : ℕ} {x : Bytes} {rest i : ℕ} → length x ≤ pla
 letters_small {x} {i} h w k = rw (lent_rest i x) (omega (arith, permutation_within (length x - i) w.place (drop i x) w.here k))
 
 -- the letter a is stored in front of the part ys that is back
-stored : (x ys : Bytes) (i a : ℕ) → 0 < i → i ≤ length x → length (put_mid i (length x - i) x ys) ≡ length x → drop (i - 1) (set (put_mid i (length x - i) x ys) (i - 1) a) ≡ a ∷ ys
-stored x ys i a some inside long =
-    let e : suc (i - 1) ≡ i = omega arith in
-    rw (drop-set (put_mid i (length x - i) x ys) (i - 1) a (omega arith), e, put_rest i x ys, drop_at (take i x) ys i (length-take-le i x inside))
+stored : (x ys : Bytes) (i j a : ℕ) → j ≡ i + 1 → j ≤ length x → length (put_mid j (length x - j) x ys) ≡ length x → drop i (set (put_mid j (length x - j) x ys) i a) ≡ a ∷ ys
+stored x ys i j a next inside long =
+    let e : suc i ≡ j = omega arith in
+    rw (drop-set (put_mid j (length x - j) x ys) i a (omega arith), e, put_rest j x ys, drop_at (take j x) ys j (length-take-le j x inside))
 
 digits : (rest m f r : ℕ) → rest * f + r ≡ rest / m * (m * f) + (rest % m * f + r)
 digits rest m f r = ap (λ k. k * f + r) (sym (div-add-mod' rest m)) ∙ rw (add-mul, mul_assoc, add_assoc)
 
-pub written_more : {rank : ℕ} {x : Bytes} {rest i : ℕ} (m a : ℕ) (ys : Bytes) → 0 < i → m ≡ length x - i + 1 → a ≡ rest % m + 1 → ys ≡ map (raised a) (mid_of i (length x - i) x) → Written rank x rest i
-    → (length (set (put_mid i (length x - i) x ys) (i - 1) a) ≡ length x) × Written rank (set (put_mid i (length x - i) x ys) (i - 1) a) (rest / m) (i - 1)
-written_more {rank} {x} {rest} {i} m a ys some e d made w =
-    let kept = same_len_mid i (length x - i) x ys (ap length made ∙ length-map (mid_of i (length x - i) x) (raised a)) in
-    let long = length-set (put_mid i (length x - i) x ys) (i - 1) a ∙ kept in
-    let size : length (set (put_mid i (length x - i) x ys) (i - 1) a) - (i - 1) ≡ suc (length x - i) = omega (arith, long, w.inside) in
-    let is : suc (length x - i) ≡ m = omega arith in
+pub written_more : {rank : ℕ} {x : Bytes} {rest i j : ℕ} (m a : ℕ) (ys : Bytes) → j ≡ i + 1 → m ≡ length x - i → a ≡ rest % m + 1 → ys ≡ map (raised a) (mid_of j (length x - j) x) → Written rank x rest j
+    → (length (set (put_mid j (length x - j) x ys) i a) ≡ length x) × Written rank (set (put_mid j (length x - j) x ys) i a) (rest / m) i
+written_more {rank} {x} {rest} {i} {j} m a ys next e d made w =
+    let kept = same_len_mid j (length x - j) x ys (ap length made ∙ length-map (mid_of j (length x - j) x) (raised a)) in
+    let long = length-set (put_mid j (length x - j) x ys) i a ∙ kept in
+    let size : length (set (put_mid j (length x - j) x ys) i a) - i ≡ suc (length x - j) = omega (arith, long, w.inside) in
+    let is : suc (length x - j) ≡ m = omega arith in
     let digit : rest % m < m = mod-lt rest (omega arith) in
     let letter : a ≡ suc (rest % m) = d ∙ add-one _ in (
       long,
       record {
         inside = omega (arith, long, w.inside);
-        place = rest % m * factorial_of (length x - i) + w.place;
-        here = rw (size, stored x ys i a some w.inside kept, made, lent_rest i x, letter) (put_in_front (length x - i) (rest % m) w.place (drop i x) (omega arith) w.here);
-        sum = rw (size, factorial_rule, is) (w.sum ∙ digits rest m (factorial_of (length x - i)) w.place);
+        place = rest % m * factorial_of (length x - j) + w.place;
+        here = rw (size, stored x ys i j a next w.inside kept, made, lent_rest j x, letter) (put_in_front (length x - j) (rest % m) w.place (drop j x) (omega arith) w.here);
+        sum = rw (size, factorial_rule, is) (w.sum ∙ digits rest m (factorial_of (length x - j)) w.place);
       },
     )
 

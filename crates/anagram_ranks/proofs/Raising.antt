@@ -1,17 +1,17 @@
 -- Letters raised from one on, by which it becomes free: where it has no count, the words are those of the other letters, raised.
 -- Assumes nothing.
 use mathlib.Core.Path.{◌≡◌, refl, sym, ◌∙◌, ap}
+use mathlib.Core.Bool.{Bool, true, false}
 use mathlib.Core.List.{List, [], ◌∷◌, map, flat_map, map-append, map-map}
 use Prim.Native.Nat.{ℕ, zero, suc, ◌+◌, ◌≤◌, ◌<◌}
 use native.Mathlib.Nat.{add-zero, suc-add}
 use native.Mathlib.Numerals.{add-one}
 use native.Mathlib.Omega.{arith}
-use lib.Dec.{leb-suc-suc}
-use lib.ListN.{length, get_or}
+use lib.Dec.{leb, leb-suc-suc}
 use borrow.Author.Tests.{le-leb, lt-leb}
-use Rattle.basics.specs.Sums.{range}
+use Rattle.std.specs.Int.{from_bool}
 use Rattle.numbers.specs.Numbers.{one_less, letters_from}
-use Rattle.listings.proofs.Fills.{reading}
+use Rattle.listings.specs.Places.{tick}
 use Rattle.anagrams.specs.Listing.{words}
 use Rattle.anagram_ranks.specs.Inner.Raised.{raised}
 
@@ -24,6 +24,15 @@ raised-up a b h = rw (le-leb a b h)
 pub raised-not : (a b : ℕ) → b < a → raised a b ≡ b
 unfolding raised
 raised-not a b h = rw (lt-leb a b h, add-zero)
+
+-- by the test as a number
+pub raised_is : (a b n : ℕ) → n ≡ from_bool (leb a b) → b + n ≡ raised a b
+unfolding raised
+raised_is a b n e = ap (λ k. b + k) (e ∙ ticked (leb a b))
+  where
+    ticked : (t : Bool) → from_bool t ≡ tick t
+    ticked true = refl
+    ticked false = refl
 
 raised-suc : (a b : ℕ) → raised (suc a) (suc b) ≡ suc (raised a b)
 unfolding raised
@@ -70,7 +79,3 @@ words-put (suc t) i cs =
     (map_choices (raised i) (map (raised (suc i))) _ _
     (λ j. rw (one_less-put i cs j, words-put t i (one_less cs j), map-map, map-map) (ap (λ b. map (λ x. b ∷ map (raised (suc i)) x) (words t (one_less cs j))) (sym (raised-suc i j))))
     (letters_from 0 cs))
-
--- raised place after place
-pub raised_all : (a : ℕ) (x : List ℕ) → map (λ i. raised a (get_or x i 0)) (range 0 (length x)) ≡ map (raised a) x
-raised_all a x = sym (map-map (raised a) (λ i. get_or x i 0) (range 0 (length x))) ∙ ap (map (raised a)) (reading x)

@@ -2,16 +2,16 @@
 -- that the letters in front of it have. And the share as it is computed and searched. Assumes nothing.
 use mathlib.Core.Path.{◌≡◌, refl, sym, ◌∙◌, ap}
 use mathlib.Core.List.{List, [], ◌∷◌, ◌++◌}
-use Prim.Native.Nat.{ℕ, zero, suc, ◌+◌, ◌*◌, ◌/◌, ◌%◌, ◌≤◌, ◌<◌}
-use native.Mathlib.Nat.{add-zero, zero-add, add-suc, suc-add, mul_comm, mul_right_comm, add-mul, mul-add, mul-zero, zero-div, div-add-mod', mul-add-div_right, mul-div_cancel, add-mul-div_right, div-le_of_le-mul, mul-le-mul, mul-le-mul_left, mod-lt, le_of_lt, lt_of_lt_of_le, le_trans, lt_of_not-le}
+use Prim.Native.Nat.{ℕ, zero, suc, ◌+◌, ◌-◌, ◌*◌, ◌/◌, ◌%◌, ◌≤◌, ◌<◌}
+use native.Mathlib.Nat.{add-zero, zero-add, add-suc, suc-add, mul_comm, mul_right_comm, add-mul, mul-add, div-add-mod', mul-add-div_right, mul-div_cancel, add-mul-div_right, div-le_of_le-mul, mul-le-mul, mul-le-mul_left, mod-lt, le_of_lt, lt_of_lt_of_le, le_trans}
 use native.Mathlib.Omega.{arith}
-use lib.ListN.{length, take, drop, get_or, length-take}
-use lib.Seq.{take_all, take-append_seam, get_or-take}
+use lib.ListN.{length, take, drop, get_or, set, length-take}
+use lib.Seq.{take-append_seam, get_or-take}
 use Rattle.basics.specs.Sums.{total, sum_over}
 use Rattle.basics.proofs.Ranges.{sum_over_cong, sum_over_times}
-use Rattle.basics.proofs.Totals.{total_take_more}
+use Rattle.basics.proofs.Totals.{total-take-le, total_take_more}
 use Rattle.numbers.specs.Numbers.{multinomial_of, one_less, letters_from}
-use Rattle.numbers.proofs.Laws.{total_less, one_less_lem, letter_has, letters_total, left-inside}
+use Rattle.numbers.proofs.Laws.{total_less, one_less_lem, one_less-set, letter_has, letters_total, left-inside}
 use Rattle.listings.specs.Places.{At}
 use Rattle.listings.proofs.PlaceRules.{at_append_right}
 use Rattle.listings.proofs.ChoicePlaces.{at_choice}
@@ -81,12 +81,16 @@ share_fits words s m h k = rw (share_parts words s m h) (div-le_of_le-mul m (rw 
 pub rest_le : (words s m n : ℕ) → 0 < m → s ≤ m → m ≤ n → words % m * s ≤ n * n
 rest_le words s m n h k l = mul-le-mul (le_of_lt (lt_of_lt_of_le (mod-lt words h) l)) (le_trans k l)
 
--- the search for the letter whose words a rank falls into: no word starts before the first letter, and behind the last there is no rank
+-- some of the letters
+pub ruleset some_letters = (total-take-le, total_take_more)
 
-pub start-le : (cs : List ℕ) (words m rank : ℕ) → words * total (take 0 cs) / m ≤ rank
+pub letter_le : (cs : List ℕ) (a : ℕ) → get_or cs a 0 ≤ total cs
 unfolding total
-start-le cs words m rank = rw (mul-zero, zero-div) (omega arith)
+letter_le [] a = omega arith
+letter_le (c ∷ cs) zero = omega arith
+letter_le (c ∷ cs) (suc a) = omega (arith, letter_le cs a)
 
-pub letters_behind : (cs : List ℕ) (a words m rank : ℕ) → total cs ≡ m → 0 < m → words * total (take a cs) / m ≤ rank → rank < words → a < length cs
-letters_behind cs a words m rank e h low high =
-    lt_of_not-le (λ l. let all : words * total (take a cs) / m ≡ words = rw (take_all a cs l, e) (mul-div_cancel words h) in omega arith)
+-- the letter a, which is left c times, is taken: s words of m letters start with it
+pub taken : (cs : List ℕ) (a c m words s : ℕ) → c ≡ get_or cs a 0 → 0 < get_or cs a 0 → total cs ≡ m → words ≡ multinomial_of cs → s ≡ words * c / m
+    → (total (set cs a (get_or cs a 0 - 1)) ≡ m - 1) × (s ≡ multinomial_of (set cs a (get_or cs a 0 - 1)))
+taken cs a c m words s is h t w e = rw one_less-set (omega (arith, total_less cs a h), e ∙ rw (is, w, ← t) (letter_share cs a h))

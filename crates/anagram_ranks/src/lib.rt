@@ -23,9 +23,12 @@ pub fn rank(counts: &[u8], object: &[u8]) -> u64
     requires counts_bound_2 { multinomial_of counts.now < 2 ^ 64 }
     ensures { result ≡ count_before anagram_before object.now (anagrams counts.now) }
 {
-    let mut space = copied(counts);
-    let n = counts.len();
-    ranking::rank_of(&mut space[..n], ranking::all_words(counts), object)
+    let mut left = copied(counts);
+    ranking::rank_of(
+        &mut left[..counts.len()],
+        ranking::all_words(counts),
+        object,
+    )
 }
 
 // The word of a rank.
@@ -36,7 +39,11 @@ pub fn unrank(rank: u64, counts: &[u8], object: &mut [u8])
     requires rank_bound { rank < multinomial_of counts.now }
     ensures { At (anagrams counts.now) object.new rank }
 {
-    let mut space = copied(counts);
-    let n = counts.len();
-    ranking::write_word(rank, &mut space[..n], ranking::all_words(counts), object);
+    let mut left = copied(counts);
+    ranking::write_word(
+        rank,
+        &mut left[..counts.len()],
+        ranking::all_words(counts),
+        object,
+    );
 }

@@ -10,17 +10,15 @@ ghost use Rattle.anagram_ranks.specs.Inner.Raised.{raised};
 
 use crate::ranking::rank_of;
 use anagrams::permutations::all_ones;
-use counting::{Count, factorial};
+use counting::factorial;
 
 // The number of permutations of n, where it fits.
+#[tactic(auto, using(crate::proofs::Counts::answer_is_exact))]
 fn all_permutations(n: usize) -> u64
     requires { (n ≤ places) × (factorial_of n < 2 ^ 64) }
     ensures { result ≡ factorial_of n }
 {
-    let Count::Exactly(v) = factorial(n as u64) else {
-        return 0;
-    };
-    v
+    factorial(n as u64).unwrap()
 }
 
 // How many permutations come before it.
@@ -30,17 +28,8 @@ pub fn rank(object: &[u8]) -> u64
     requires object_bound { factorial_of (length object.now) < 2 ^ 64 }
     ensures { result ≡ count_before anagram_before object.now (permutations (length object.now)) }
 {
-    let mut left = all_ones();
     let n = object.len();
-    rank_of(&mut left[..n], all_permutations(n), object)
-}
-
-// What letter b becomes where letter a is put in front: from a on it goes up by one.
-fn raise_letter(b: u8, a: u8) -> u8
-    requires { b < 255 }
-    ensures { result ≡ raised a b }
-{
-    if a <= b { b + 1 } else { b }
+    rank_of(&mut all_ones()[..n], all_permutations(n), object)
 }
 
 // Makes letter a free: the letters of the part from a on go up by one.
@@ -48,10 +37,8 @@ fn raise(part: &mut [u8], a: u8)
     requires { (i : ℕ) → get_or part.old i 0 < 255 }
     ensures { part.new ≡ map (raised a) part.old }
 {
-    let mut i = 0;
-    while i < part.len() {
-        part[i] = raise_letter(part[i], a);
-        i += 1;
+    for letter in part.iter_mut() {
+        *letter += u8::from(a <= *letter);
     }
 }
 
@@ -64,13 +51,11 @@ pub fn unrank(rank: u64, object: &mut [u8])
 {
     let n = object.len();
     let mut rest = rank;
-    let mut i = n;
-    while 0 < i {
-        let m = (n - i + 1) as u64;
-        let a = (rest % m + 1) as u8;
-        rest = rest / m;
-        raise(&mut object[i..], a);
-        i -= 1;
-        object[i] = a;
+    for i in (0..n).rev() {
+        let size = (n - i) as u64;
+        let letter = (rest % size + 1) as u8;
+        rest /= size;
+        raise(&mut object[i + 1..], letter);
+        object[i] = letter;
     }
 }

@@ -10,15 +10,17 @@ use native.Mathlib.Numerals.{one-add}
 use native.Mathlib.Decide.{ℕ_discrete}
 use native.Mathlib.Omega.{arith}
 use lib.Dec.{eqb, eqb-zero-suc, eqb-suc-suc}
-use lib.ListN.{length, get_or}
+use lib.ListN.{length, get_or, length-replicate}
 use lib.Seq.{get_or-set_other}
 use borrow.Author.Tests.{eqb-true, eq-eqb, ne_eqb}
+use Rattle.basics.specs.Limits.{places}
 use Rattle.basics.specs.Sums.{total}
 use Rattle.numbers.specs.Numbers.{one_less}
-use Rattle.numbers.proofs.Laws.{total_less, one_less-set}
+use Rattle.numbers.proofs.Laws.{total_less, one_less-set, total-ones}
 use Rattle.listings.specs.Bytes.{Bytes}
 use Rattle.basics.proofs.Bools.{and-true, and_makes}
 use Rattle.anagrams.specs.Objects.{occurrences, tallies, is_anagram}
+use Rattle.anagrams.specs.Permutations.{ones}
 
 pub anagram_cases : (cs : List ℕ) (x : Bytes) → is_anagram cs x ≡ true → (length x ≡ total cs) × (tallies 1 cs x ≡ true)
 unfolding is_anagram
@@ -119,3 +121,7 @@ same-tallies i (c ∷ cs) p = rw ((same_letters p).1 i, same-tallies (suc i) cs 
 pub rearranged : (cs : List ℕ) {x y : Bytes} → Permᴰ x y → is_anagram cs x ≡ is_anagram cs y
 unfolding is_anagram
 rearranged cs p = rw ((same_letters p).0, same-tallies 1 cs p)
+
+-- the counts of a permutation of n
+pub each_once : (n : ℕ) (cs : List ℕ) → n ≤ places → cs ≡ ones n → (length cs ≤ places) × (n ≡ total cs)
+each_once n cs h is = (omega (arith, ap length is, length-replicate {A = ℕ} n 1), sym (ap total is ∙ total-ones n))

@@ -6,11 +6,9 @@ use mathlib.Core.Bool.{Bool, true, false, not, true≢false}
 use mathlib.Core.List.Memᴰ
 use mathlib.Core.List.Permᴰ
 use mathlib.Core.List.{List, [], ◌∷◌, ◌++◌, reverse, Memᴰ, Permᴰ}
-use Prim.Native.Nat.{ℕ, suc, ◌+◌, ◌-◌, ◌≤◌, ◌<◌}
-use native.Mathlib.Nat.{eq-or-lt_of_le}
-use native.Mathlib.Numerals.{add-one}
+use Prim.Native.Nat.{ℕ, suc, ◌+◌, ◌≤◌, ◌<◌}
 use native.Mathlib.Omega.{arith}
-use lib.ListN.{length, get_or, drop, drop_of_length-le}
+use lib.ListN.{length, get_or, drop, drop_of_length-le, length-drop}
 use lib.Seq.{drop-cons}
 use borrow.Author.Tests.{ltb-true, ltb-false, lt-ltb, le-ltb, not-true}
 use Rattle.numbers.specs.Numbers.{one_less}
@@ -82,12 +80,7 @@ module _ (up : Bool) (a b : ℕ) (v : Bytes) (less : precedes_by up a b ≡ true
       let (i, e, h, off) = first_off cs d _ o in
       rw (by_letter cs i h, e) (beside-inside (others cs) put (has_letter cs i h) (stepped (one_less cs i) front u s off))
 
--- the search for the tail: no letter of it precedes a later one
-
-pub spent_short : (up : Bool) (x : Bytes) → length x ≤ 1 → Spent up x
-spent_short up [] h = none
-spent_short up (a ∷ []) h = more (λ b k. absurd (Memᴰ.not-nil k)) none
-spent_short up (a ∷ b ∷ x) h = absurd (omega arith)
+-- the search for the pivot, from the end: no letter behind it precedes a later one
 
 spent_cons : (up : Bool) {a b : ℕ} {x : Bytes} → precedes_by up a b ≡ false → Spent up (b ∷ x) → Spent up (a ∷ b ∷ x)
 spent_cons up {a} {b} {x} h (more before rest) = more {x = a} (λ c k. rw (apart c (Memᴰ.cases_cons k))) (more before rest)
@@ -96,23 +89,26 @@ spent_cons up {a} {b} {x} h (more before rest) = more {x = a} (λ c k. rw (apart
     apart c (inl e) = rw e h
     apart c (inr k) = not_later up a b c h (not-true _ (before c k))
 
-pub spent_longer : (up : Bool) (x : Bytes) (p : ℕ) → 1 < p → p ≤ length x → precedes_by up (get_or x (p - 2) 0) (get_or x (p - 1) 0) ≡ false → Spent up (drop (p - 1) x) → Spent up (drop (p - 1 - 1) x)
-spent_longer up x p h k less s =
-    let two : p - 1 - 1 ≡ p - 2 = omega arith in
-    let one : suc (p - 2) ≡ p - 1 = omega arith in
-    let tail = drop-cons x (p - 1) 0 (omega arith) in
-    rw (two, drop-cons x (p - 2) 0 (omega arith), one, tail) (spent_cons up less (rw tail at s))
+pub spent_none : (up : Bool) (x : Bytes) (i : ℕ) → length x ≤ i + 1 → Spent up (drop i x)
+spent_none up x i h = short (drop i x) (simp length-drop (omega arith))
+  where
+    short : (y : Bytes) → length y ≤ 1 → Spent up y
+    short [] k = none
+    short (a ∷ []) k = more (λ b m. absurd (Memᴰ.not-nil m)) none
+    short (a ∷ b ∷ y) k = absurd (omega arith)
 
--- the search for the last letter that a precedes: it precedes none behind
+pub spent_more : (up : Bool) (x : Bytes) (i j : ℕ) → j ≡ i + 1 → j < length x → precedes_by up (get_or x i 0) (get_or x j 0) ≡ false → Spent up (drop j x) → Spent up (drop i x)
+spent_more up x i j e h less s =
+    let next : suc i ≡ j = omega arith in
+    let tail = drop-cons x j 0 h in
+    rw (drop-cons x i 0 (omega arith), next, tail) (spent_cons up less (rw tail at s))
 
-pub beyond_none : (up : Bool) (a : ℕ) (x : Bytes) → 0 < length x → NoneBeyond up a (drop (length x - 1 + 1) x)
-beyond_none up a x h c k = absurd (Memᴰ.not-nil (rw (drop_of_length-le x {i = length x - 1 + 1} (omega arith)) at k))
+-- the search for the last letter that a precedes, from the end: it precedes none behind
 
-pub beyond_more : (up : Bool) (a : ℕ) (x : Bytes) (q : ℕ) → 0 < q → q < length x → precedes_by up a (get_or x q 0) ≡ false → NoneBeyond up a (drop (q + 1) x) → NoneBeyond up a (drop (q - 1 + 1) x)
-beyond_more up a x q h k here later c m =
-    let e : q - 1 + 1 ≡ q = omega arith in
-    ⊎_elim (λ (i : c ≡ get_or x q 0). rw i here) (λ i. later c (rw add-one i)) (Memᴰ.cases_cons (rw (e, drop-cons x q 0 k) at m))
+pub beyond_none : (up : Bool) (a : ℕ) (x : Bytes) → NoneBeyond up a (drop (length x) x)
+beyond_none up a x c k = absurd (Memᴰ.not-nil (rw (drop_of_length-le x {i = length x} (omega arith)) at k))
 
--- a test that passes at place p + 1 and not at a later one
-pub not_there : (passes : ℕ → Bool) (p q : ℕ) → p < q → passes (p + 1) ≡ true → passes q ≡ false → p < q - 1
-not_there passes p q h there here = ⊎_elim (λ (e : suc p ≡ q). absurd (true≢false (sym there ∙ rw (add-one, e) here))) (λ l. omega arith) (eq-or-lt_of_le h)
+pub beyond_more : (up : Bool) (a : ℕ) (x : Bytes) (i j : ℕ) → j ≡ i + 1 → i < length x → precedes_by up a (get_or x i 0) ≡ false → NoneBeyond up a (drop j x) → NoneBeyond up a (drop i x)
+beyond_more up a x i j e h here later c k =
+    let next : suc i ≡ j = omega arith in
+    ⊎_elim (λ (is : c ≡ get_or x i 0). rw is here) (λ m. later c (rw (← next) m)) (Memᴰ.cases_cons (rw (drop-cons x i 0 h) at k))

@@ -157,12 +157,11 @@ pub record Written (counts object : List ℕ) (at i : ℕ) : Type 0 where
 pub written_none : (counts object : List ℕ) → length object ≡ total counts → Written counts object 0 0
 written_none counts object e = record { long = e; room = omega arith; word = refl }
 
--- ys is the part that is lent for letter i, filled with it
-pub written_more : (counts object ys : List ℕ) (at i : ℕ) → i < length counts → Written counts object at i → ys ≡ replicate (length (mid_of at (at + get_or counts i 0 - at) object)) (i + 1)
-    → Written counts (put_mid at (at + get_or counts i 0 - at) object ys) (at + get_or counts i 0) (i + 1)
+-- ys is the part that is lent for letter i, c places, filled with it
+pub written_more : (counts object ys : List ℕ) (at c i : ℕ) → c ≡ get_or counts i 0 → i < length counts → Written counts object at i → ys ≡ replicate (length (mid_of at (at + c - at) object)) (i + 1)
+    → Written counts (put_mid at (at + c - at) object ys) (at + c) (i + 1)
 unfolding rising
-written_more counts object ys at i h w made =
-    let c : ℕ = get_or counts i 0 in
+written_more counts object ys at c i count h w made =
     let left = total-drop counts i h in
     let fits : at + c ≤ length object = omega (arith, w.long, w.room) in
     let e : at + c - at ≡ c = omega arith in
@@ -171,7 +170,7 @@ written_more counts object ys at i h w made =
     rw e record {
       long = same_len_mid at c object ys (ap length is ∙ length-replicate c (i + 1) ∙ sym part) ∙ w.long;
       room = omega (arith, w.room);
-      word = rw (put_part at c object ys (omega arith) (ap length is ∙ length-replicate c (i + 1)), is, add-one, append_assoc) (rw (drop-cons counts i 0 h) at w.word);
+      word = rw (put_part at c object ys (omega arith) (ap length is ∙ length-replicate c (i + 1)), is, add-one, append_assoc, count) (rw (drop-cons counts i 0 h) at w.word);
     }
 
 pub written_all : (counts object : List ℕ) (at i : ℕ) → length counts ≤ i → Written counts object at i → First (anagrams counts) object

@@ -1,5 +1,5 @@
 // Letters that are left: taken one by one, and whether none is left.
-ghost use Rattle.std.specs.Prelude.{◌≡◌, eqb};
+ghost use Rattle.std.specs.Prelude.{◌≡◌, ℕ, ◌+◌, ◌<◌, eqb, get_or, MatchOption};
 ghost use Rattle.basics.specs.Sums.{total};
 ghost use Rattle.anagrams.specs.Objects.{is_anagram};
 
@@ -7,35 +7,27 @@ ghost use Rattle.anagrams.specs.Objects.{is_anagram};
 fn none_left(left: &[u8]) -> bool
     ensures { result ≡ eqb 0 (total left.now) }
 {
-    let mut i = 0;
-    while i < left.len() {
-        if left[i] != 0 {
-            return false;
-        }
-        i += 1;
-    }
-    true
+    left.iter().all(|count| *count == 0)
+}
+
+// The place in the counts of a letter that is left.
+fn place_left(left: &[u8], letter: u8) -> Option<usize>
+    ensures { MatchOption result ((i : ℕ) → letter ≡ i + 1 → get_or left.now i 0 ≡ 0) (λ i. (letter ≡ i + 1) × (0 < get_or left.now i 0)) }
+{
+    let place = usize::from(letter.checked_sub(1)?);
+    let count = *left.get(place)?;
+    (0 < count).then_some(place)
 }
 
 // Takes each letter of the word from those left. Is every one there, and none left at the end?
 pub fn spend_all(left: &mut [u8], object: &[u8]) -> bool
     ensures { result ≡ is_anagram left.old object.now }
 {
-    let mut i = 0;
-    while i < object.len() {
-        let a = object[i] as usize;
-        if a == 0 {
+    for letter in object {
+        let Some(place) = place_left(left, *letter) else {
             return false;
-        }
-        let at = a - 1;
-        if left.len() <= at {
-            return false;
-        }
-        if left[at] == 0 {
-            return false;
-        }
-        left[at] -= 1;
-        i += 1;
+        };
+        left[place] -= 1;
     }
     none_left(left)
 }

@@ -1,5 +1,6 @@
 // Kind 2: anagrams, the words with letter i (from 1) as often as counts[i - 1] says, over lent byte slices. Called by `families`, which
-// shows what each function requires. Nothing here counts them: the ranks are in `anagram_ranks`.
+// shows what each function requires: the counts are the bytes that C lends, so no type of ours can carry what is known of them. Nothing here
+// counts the words: the ranks are in `anagram_ranks`.
 #![tactic(auto)]
 
 ghost use Rattle.std.specs.Prelude.{◌≡◌, true, List, ℕ, ◌≤◌, length};
@@ -15,16 +16,14 @@ mod letters;
 pub mod permutations;
 mod stepping;
 
-use listings::{Step, copied, fill_with};
+use listings::{Step, copied};
 
 // Does the slice hold a word of these letters?
 pub fn is_object(counts: &[u8], object: &[u8]) -> bool
     requires { length counts.now ≤ places }
     ensures { result ≡ is_anagram counts.now object.now }
 {
-    let mut space = copied(counts);
-    let n = counts.len();
-    letters::spend_all(&mut space[..n], object)
+    letters::spend_all(&mut copied(counts)[..counts.len()], object)
 }
 
 // The earliest: the letters in ascending order.
@@ -32,13 +31,11 @@ pub fn first(counts: &[u8], object: &mut [u8])
     requires { (length counts.now ≤ places) × (length object.old ≡ total counts.now) }
     ensures { First (anagrams counts.now) object.new }
 {
-    let mut at = 0;
-    let mut i = 0;
-    while i < counts.len() {
-        let end = at + (counts[i] as usize);
-        fill_with(&mut object[at..end], (i + 1) as u8);
-        at = end;
-        i += 1;
+    let mut start = 0;
+    for (i, count) in counts.iter().enumerate() {
+        let end = start + usize::from(*count);
+        object[start..end].fill((i + 1) as u8);
+        start = end;
     }
 }
 
@@ -48,7 +45,7 @@ pub fn last(counts: &[u8], object: &mut [u8])
     ensures { Last (anagrams counts.now) object.new }
 {
     first(counts, object);
-    stepping::turn_round(object);
+    object.reverse();
 }
 
 // The word just after, whatever its letters are.

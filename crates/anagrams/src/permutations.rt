@@ -19,8 +19,7 @@ pub fn is_object(n: usize, object: &[u8]) -> bool
     requires { n ≤ places }
     ensures { result ≡ is_permutation n object.now }
 {
-    let counts = all_ones();
-    crate::is_object(&counts[..n], object)
+    crate::is_object(&all_ones()[..n], object)
 }
 
 // The earliest: 1, 2, .., n.
@@ -28,9 +27,8 @@ pub fn first(object: &mut [u8])
     requires { length object.old ≤ places }
     ensures { First (permutations (length object.old)) object.new }
 {
-    let counts = all_ones();
     let n = object.len();
-    crate::first(&counts[..n], object);
+    crate::first(&all_ones()[..n], object);
 }
 
 // The latest: n, .., 2, 1.
@@ -38,7 +36,6 @@ pub fn last(object: &mut [u8])
     requires { length object.old ≤ places }
     ensures { Last (permutations (length object.old)) object.new }
 {
-    let counts = all_ones();
     let n = object.len();
-    crate::last(&counts[..n], object);
+    crate::last(&all_ones()[..n], object);
 }

@@ -1,0 +1,7 @@
+-- The letters that are lent are those of a permutation.
+use Rattle.std.proofs.Common.{arith, length}
+use Rattle.anagrams.proofs.Facts.{each_once}
+use Rattle.anagrams.proofs.permutations.last.Goals as goal
+
+pub last-requires : goal.last-requires
+last-requires c = let n = length c.args.object.now in each_once n _ c.requires (c.all_ones.ensures.1 n (omega arith))
