@@ -18,7 +18,8 @@ use Rattle.listings.specs.Bytes.{Bytes}
 use Rattle.listings.specs.Places.{count_before, At}
 use Rattle.listings.proofs.Ranks.{at_rank, rank_below, place-is_rank, edge_first}
 use Rattle.listings.proofs.PlaceRules.{at_member}
-use Rattle.set_partitions.specs.KeyOrder.{Edition, one}
+use Rattle.set_partitions.specs.declared.edition.Edition.{Edition}
+use Rattle.set_partitions.specs.declared.edition.Edition.TheVariants.{One as one}
 use Rattle.set_partitions.specs.Objects.{is_set_partition, keys, set_partition_before}
 use Rattle.set_partitions.specs.Listing.{others_in, block_of, set_partitions}
 use Rattle.set_partitions.specs.Inner.Keys.{earlier_by, Placed}

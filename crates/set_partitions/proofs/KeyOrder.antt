@@ -15,7 +15,7 @@ use lib.ListN.{take}
 use lib.Seq.{take_at, take-take}
 use borrow.Author.Tests.{lt-ltb, le-ltb, le-leb, lt-leb, eq-eqb, ne_eqb, eqb-true, ltb-true, ltb-false, leb-true, leb-false}
 use Rattle.basics.specs.Sums.{range, sum_over}
-use Rattle.basics.proofs.Bools.{and-true, and_makes, and_fails, true_or_false, or_cases, or_left, or_right}
+use Rattle.basics.proofs.Bools.{and-true, and_makes, and_fails, or_cases, or_left, or_right}
 use Rattle.basics.proofs.Ranges.{length-range, take_range, sum_over-append, between}
 use Rattle.numbers.specs.Numbers.{stirling_of}
 use Rattle.numbers.proofs.Stirlings.{stirling_none, stirling_zero}
@@ -397,36 +397,14 @@ new_becomes : (up : Bool) (u b m : ℕ) → key_to up u b ≡ 0 → max u b ≡ 
 unfolding block_of others_in
 new_becomes up u b m q all some = rw (q, all) (omega arith, refl)
 
-from_new : (up : Bool) (u b : ℕ) → u < b → Becomes up u b (rest_block (not up) b) b
+pub from_new : (up : Bool) (u b : ℕ) → u < b → Becomes up u b (rest_block (not up) b) b
 from_new true u b h = block_becomes true u b 1 b (rw (lt-ltb u b h, ne_eqb 0 (max u b) (λ z. omega arith)) refl) (omega arith) (omega arith) (omega arith)
 from_new false u b h = block_becomes false u b b b (rw (lt-ltb u b h) (omega arith)) (omega arith) (omega arith) (omega arith)
 
-from_rest : (up : Bool) (u b : ℕ) → 1 ≤ b → b ≤ u → b ≡ rest_block up u → Becomes up u b u (u - 1)
+pub from_rest : (up : Bool) (u b : ℕ) → 1 ≤ b → b ≤ u → b ≡ rest_block up u → Becomes up u b u (u - 1)
 from_rest true u b from upto q = new_becomes true u b u (rw (le-ltb u b upto, eq-eqb b (max u b) (omega arith))) (omega arith) (omega arith)
 from_rest false u b from upto q = new_becomes false u b u (rw (le-ltb u b upto, ne_eqb b 0 (λ z. omega arith)) (omega arith)) (omega arith) (omega arith)
 
-from_other : (up : Bool) (u b : ℕ) → 1 ≤ b → b ≤ u → (b ≡ rest_block up u → ⊥) → Becomes up u b (cond up (b + 1) (b - 1)) u
+pub from_other : (up : Bool) (u b : ℕ) → 1 ≤ b → b ≤ u → (b ≡ rest_block up u → ⊥) → Becomes up u b (cond up (b + 1) (b - 1)) u
 from_other true u b from upto other = block_becomes true u b (b + 1) u (rw (le-ltb u b upto, ne_eqb b (max u b) (λ z. other (omega arith)))) (omega arith) (omega arith) (omega arith)
 from_other false u b from upto other = block_becomes false u b (b - 1) u (rw (le-ltb u b upto, ne_eqb b 0 (λ z. omega arith))) (omega arith) (omega arith) (omega arith)
-
-pub from_late : (up : Bool) (u b : ℕ) → 1 ≤ b → b ≤ u → let opens = eqb b (rest_block up u) in Becomes up u b (cond opens u (cond up (b + 1) (b - 1))) (cond opens (u - 1) u)
-from_late up u b from upto = ⊎_elim
-    (λ t. rw t (from_rest up u b from upto (eqb-true b (rest_block up u) t)))
-    (λ f. rw f (from_other up u b from upto (λ q. false≢true (sym f ∙ eq-eqb b (rest_block up u) q))))
-    (true_or_false (eqb b (rest_block up u)))
-
-pub from_early : (up : Bool) (u b : ℕ) → 1 ≤ b → (b ≤ u → b ≡ rest_block up u → ⊥) → Becomes up u b (cond (ltb u b) (rest_block (not up) b) (cond up (b + 1) (b - 1))) (cond (ltb u b) b u)
-from_early up u b from other =
-    let v : Bool → ℕ = λ new. cond new (rest_block (not up) b) (cond up (b + 1) (b - 1)) in
-    elim (dec_lt u b) [
-      | yes h ↦ subst (λ new. Becomes up u b (v new) (cond new b u)) (sym (lt-ltb u b h)) (from_new up u b h)
-      | no h ↦ subst (λ new. Becomes up u b (v new) (cond new b u)) (sym (le-ltb u b (omega arith))) (from_other up u b from (omega arith) (other (omega arith)))
-    ]
-
--- a key that can move does so from there
-
-pub late_leaves : (late up : Bool) (n u b : ℕ) → moves late up n u b ≡ true → late ≡ true → b ≤ u
-late_leaves late up n u b e is = (late_goes up n u b (rw is at e)).1
-
-pub early_leaves : (late up : Bool) (n u b : ℕ) → moves late up n u b ≡ true → late ≡ false → b ≤ u → b ≡ rest_block up u → ⊥
-early_leaves late up n u b e is h = other b (rest_block up u) (sym (early_old up n u b h) ∙ (rw is at e))

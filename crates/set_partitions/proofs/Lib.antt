@@ -5,5 +5,6 @@ pub mod Laws
 pub mod Places
 pub mod Neighbours
 pub mod Testing
+pub mod Searching
 pub mod KeyOrder
 pub mod Meaning

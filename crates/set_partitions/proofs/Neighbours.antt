@@ -15,10 +15,10 @@ use Rattle.listings.specs.Directions.{Beside, Edge}
 use Rattle.listings.specs.Places.{Follows}
 use Rattle.listings.proofs.ChoicePlaces.{inside_choice, beside_seam, Tail, ends, then, tail_beside}
 use Rattle.set_partitions.specs.KeyOrder.{Edition, keys_in_order}
-use Rattle.set_partitions.specs.Objects.{opens}
+use Rattle.set_partitions.specs.Objects.{opens, is_set_partition}
 use Rattle.set_partitions.specs.Listing.{others_in, set_partitions}
 use Rattle.set_partitions.specs.Inner.Moves.{opens_late, moves, key_to, used_before, moves_at, FirstMove}
-use Rattle.set_partitions.proofs.Facts.{Opened, opens-cases, key_at, key_found}
+use Rattle.set_partitions.proofs.Facts.{Opened, opens-cases, partition_cases, key_at, key_found}
 use Rattle.set_partitions.proofs.KeyOrder.{key_listed, Goes, goes, Becomes}
 use Rattle.set_partitions.proofs.Theorem.{others, behind}
 use Rattle.set_partitions.proofs.Places.{none_edge, edge_kept, edge_fits}
@@ -47,15 +47,15 @@ front e up k (suc r) x o h passed =
     }
 
 -- the first model is in block 1
-pub first_block : (k : ℕ) (x : Bytes) → opens 0 k x ≡ true → 0 < length x → get_or x 0 0 ≡ 1
-first_block k [] o some = absurd (omega arith)
-first_block k (b ∷ x) o some = let f = opens-cases 0 k b x o in omega (arith, f.from, f.upto)
+pub first_block : (n k : ℕ) (x : Bytes) → is_set_partition n k x ≡ true → 0 < length x → get_or x 0 0 ≡ 1
+first_block n k [] o some = absurd (omega arith)
+first_block n k (b ∷ x) o some = let f = opens-cases 0 k b x (partition_cases n k (b ∷ x) o).1 in omega (arith, f.from, f.upto)
 
 -- all are passed
-pub all_passed : {up : Bool} (e : Edition) (k : ℕ) (x : Bytes) → opens 0 k x ≡ true → ((i : ℕ) → i < length x → moves_at (opens_late e up) up x i ≡ false) → Edge up (set_partitions e (length x) k) x
+pub all_passed : {up : Bool} (e : Edition) (k : ℕ) (x : Bytes) → is_set_partition (length x) k x ≡ true → ((i : ℕ) → i < length x → moves_at (opens_late e up) up x i ≡ false) → Edge up (set_partitions e (length x) k) x
 unfolding opens
 all_passed {up} e k x o passed =
-    let f = front e up k (length x) x o (omega arith) passed in
+    let f = front e up k (length x) x (partition_cases (length x) k x o).1 (omega arith) passed in
     let v : ℕ = used_before x (length x) in
     subst₂ (λ j z. Edge up (set_partitions e (length x) j) z) (eqb-true v k (subst (λ z. opens v k z ≡ true) (drop-length x) f.rest)) (take-length x) f.end
 
@@ -99,15 +99,14 @@ pub record Turn (e : Edition) (up : Bool) (k r u : ℕ) (x : Bytes) : Type 0 whe
   pub few : u ≤ r
   pub from : 1 ≤ get_or x r 0
   pub upto : get_or x r 0 ≤ suc u
-  pub can : moves (opens_late e up) up r u (get_or x r 0) ≡ true
   pub moved : (v m : ℕ) → Becomes up u (get_or x r 0) v m → ((m ≤ r) × (m ≡ 0 → r ≡ 0)) × ((y : Bytes) → Edge (not up) (set_partitions e r m) y → Beside up (set_partitions e (length x) k) x (y ++ drop r (set x r v)))
 
-pub turn : {up : Bool} (e : Edition) (k r u : ℕ) (x : Bytes) → opens 0 k x ≡ true → FirstMove (opens_late e up) up x r u → Turn e up k r u x
+pub turn : {up : Bool} (e : Edition) (k r u : ℕ) (x : Bytes) → is_set_partition (length x) k x ≡ true → FirstMove (opens_late e up) up x r u → Turn e up k r u x
 turn {up} e k r u x o s =
     let inside = s.inside in
     let b : ℕ = get_or x r 0 in
     let j : ℕ = max u b - 1 in
-    let f = subst (λ v. EndInFront e up k r v x) (sym s.used) (front e up k r x o (omega arith) s.passed) in
+    let f = subst (λ v. EndInFront e up k r v x) (sym s.used) (front e up k r x (partition_cases (length x) k x o).1 (omega arith) s.passed) in
     let g = opened k r u x inside f in
     let few = edge_fits e r u f.end in
     let all : suc j ≡ max u b = omega (arith, g.from) in
@@ -118,7 +117,6 @@ turn {up} e k r u x o s =
       few = few.0;
       from = g.from;
       upto = g.upto;
-      can = can;
       moved = λ v m a. (
         rw a.1 to.fits,
         λ y z. moved_whole e k r (max u b) v x y inside g.rest

@@ -1,17 +1,14 @@
--- Where a partition with one model more stands, by the key of that model; which are the first and the last in either edition, and that two loans write
--- them. Assumes nothing.
-use mathlib.Core.Path.{◌≡◌, refl, sym, ◌∙◌, ap, ap₂, subst, subst₂}
+-- Where a partition with one model more stands, by the key of that model; which are the first and the last in either edition.
+-- Assumes nothing.
+use mathlib.Core.Path.{◌≡◌, refl, sym, ◌∙◌, ap, subst, subst₂}
 use mathlib.Core.Bool.{Bool, true, false, false≢true}
 use mathlib.Core.List.{[], ◌∷◌, ◌++◌, append-nil, append_assoc}
 use Prim.Native.Nat.{ℕ, zero, suc, ◌+◌, ◌-◌, ◌≤◌, max}
 use native.Mathlib.Nat.{zero-add, add-zero, suc-add, add-suc}
 use native.Mathlib.Numerals.{add-one}
 use native.Mathlib.Omega.{arith}
-use lib.ListN.{length, take, drop, replicate, replicate-append-replicate}
-use lib.Seq.{length-take-le}
-use borrow.Rule.Slice.PartMut.{mid_of, put_mid}
+use lib.ListN.{length, replicate, replicate-append-replicate}
 use Rattle.basics.specs.Sums.{range}
-use Rattle.basics.proofs.Lists.{rest_lent, both_written}
 use Rattle.basics.proofs.Ranges.{range_snoc}
 use Rattle.numbers.specs.Numbers.{stirling_of}
 use Rattle.numbers.proofs.Stirlings.{stirling_rule}
@@ -124,11 +121,3 @@ module _ (e : Edition) (up : Bool) where
 
     pub early_end : opens_late e up ≡ false → Edge up (set_partitions e n k) (range 1 k ++ replicate (n - k) (rest_block up k))
     early_end early = subst (λ m. Edge up (set_partitions e m k) (range 1 k ++ replicate (n - k) (rest_block up k))) (omega arith) (early_edge early (n - k) k (λ z. omega (arith, some z)))
-
--- as two loans leave them: f in the front of d, and g behind it
-module _ (f g : ℕ → Bytes) (sized : (n : ℕ) → length (f n) ≡ n) (at : ℕ) (d p q : Bytes) (h : at ≤ length d) where
-  pub both_filled : p ≡ f (length (take at d)) → q ≡ g (length (mid_of at (length (p ++ drop at d) - at) (p ++ drop at d))) → put_mid at (length (p ++ drop at d) - at) (p ++ drop at d) q ≡ f at ++ g (length d - at)
-  both_filled written written' =
-      let front : p ≡ f at = written ∙ ap f (length-take-le at d h) in
-      let long : length p ≡ at = ap length front ∙ sized at in
-      both_written at d p h long q ∙ ap₂ (λ v w. v ++ w) front (written' ∙ ap g (rest_lent at d p h long))

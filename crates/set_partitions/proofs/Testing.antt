@@ -17,9 +17,9 @@ pub wrong_length : (n k : ℕ) (x : Bytes) → (length x ≡ n → ⊥) → is_s
 unfolding is_set_partition
 wrong_length n k x h = rw (ne_eqb (length x) n h)
 
-pub right-length : (n k : ℕ) (x : Bytes) → length x ≡ n → is_set_partition n k x ≡ opens 0 k x
+pub right_length : (n k : ℕ) (x : Bytes) → length x ≡ n → is_set_partition n k x ≡ opens 0 k x
 unfolding is_set_partition
-right-length n k x h = rw (eq-eqb (length x) n h)
+right_length n k x h = rw (eq-eqb (length x) n h)
 
 -- the model at place i, with u blocks used before it
 
@@ -34,3 +34,5 @@ module _ (k u i : ℕ) (x : Bytes) where
   pub all_read : length x ≤ i → opens u k (drop i x) ≡ eqb u k
   unfolding opens
   all_read h = rw (drop_of_length-le x {i = i} h)
+
+pub ruleset test_steps = (wrong_length, right_length, block_wrong, block_read, all_read)

@@ -2,11 +2,9 @@
 -- Assumes nothing.
 use Rattle.std.specs.Prelude.{Bool, cond, ◌&&◌, ◌||◌, List, [], ◌∷◌, ◌++◌, ℕ, ltb, eqb}
 use Rattle.basics.specs.Sums.{range}
-
--- "A family says edition 1 or 2" (SCOPE 1.f)
-pub data Edition : Type 0 where
-  one : Edition
-  two : Edition
+-- "A family says edition 1 or 2" (SCOPE 1.f): the two cases of src/edition.rt
+pub use Rattle.set_partitions.specs.declared.edition.Edition.{Edition}
+pub use Rattle.set_partitions.specs.declared.edition.Edition.TheVariants.{One as one, Two as two}
 
 -- the edition that a number says; of no edition but 1 and 2 is there a family (SCOPE 4.11)
 unfoldable pub edition_of : ℕ → Edition

@@ -11,13 +11,17 @@ ghost use Rattle.set_partitions.specs.KeyOrder.{edition_of};
 ghost use Rattle.set_partitions.specs.Objects.{is_set_partition, set_partition_before};
 ghost use Rattle.set_partitions.specs.Listing.{set_partitions};
 
+pub mod edition;
 mod ends;
 mod stepping;
 
-use ends::write_end;
+pub use edition::Edition;
+use ends::ListingEnd;
 use listings::Step;
+use stepping::step;
 
 // Does the slice hold a partition of n models into k blocks?
+#[tactic(auto, using(crate::proofs::Testing::test_steps))]
 pub fn is_object(n: u64, k: u64, object: &[u8]) -> bool
     ensures { result ≡ is_set_partition n k object.now }
 {
@@ -25,19 +29,12 @@ pub fn is_object(n: u64, k: u64, object: &[u8]) -> bool
         return false;
     }
     let mut used: u64 = 0;
-    let mut i = 0;
-    while i < object.len() {
-        let b = object[i] as u64;
-        if b == 0 {
+    for block in object {
+        let b = u64::from(*block);
+        if b == 0 || used + 1 < b {
             return false;
         }
-        if used + 1 < b {
-            return false;
-        }
-        if used < b {
-            used = b;
-        }
-        i += 1;
+        used = used.max(b);
     }
     used == k
 }
@@ -48,7 +45,7 @@ pub fn first(edition: u64, k: u64, object: &mut [u8])
     requires k_in_bounds { (k ≤ length object.old) × (k ≡ 0 → length object.old ≡ 0) }
     ensures { First (set_partitions (edition_of edition) (length object.old) k) object.new }
 {
-    write_end(edition, false, k, object);
+    ListingEnd::new(edition, false).write(k, object);
 }
 
 // The latest.
@@ -57,7 +54,7 @@ pub fn last(edition: u64, k: u64, object: &mut [u8])
     requires k_in_bounds { (k ≤ length object.old) × (k ≡ 0 → length object.old ≡ 0) }
     ensures { Last (set_partitions (edition_of edition) (length object.old) k) object.new }
 {
-    write_end(edition, true, k, object);
+    ListingEnd::new(edition, true).write(k, object);
 }
 
 // The partition just after.
@@ -66,7 +63,7 @@ pub fn next(edition: u64, k: u64, object: &mut [u8]) -> Step
     requires object_value { is_set_partition (length object.old) k object.old ≡ true }
     ensures { ◌≡◌ {A = Said} (step_as result, object.new) (act NEXT (set_partition_before (edition_of edition)) (set_partitions (edition_of edition) (length object.old) k) object.old) }
 {
-    stepping::step(edition, true, k, object)
+    step(ListingEnd::new(edition, true), k, object)
 }
 
 // The partition just before.
@@ -75,5 +72,5 @@ pub fn previous(edition: u64, k: u64, object: &mut [u8]) -> Step
     requires object_value { is_set_partition (length object.old) k object.old ≡ true }
     ensures { ◌≡◌ {A = Said} (step_as result, object.new) (act PREVIOUS (set_partition_before (edition_of edition)) (set_partitions (edition_of edition) (length object.old) k) object.old) }
 {
-    stepping::step(edition, false, k, object)
+    step(ListingEnd::new(edition, false), k, object)
 }

@@ -3,7 +3,8 @@
 use Prim.Native.Nat.{ℕ, ◌+◌, ◌<◌}
 use native.Mathlib.Omega.{arith}
 use borrow.Author.Rules.{rules}
-use Rattle.set_partitions.specs.KeyOrder.{Edition, edition_of}
+use Rattle.set_partitions.specs.KeyOrder.{edition_of}
+use Rattle.set_partitions.specs.declared.edition.Edition.{Edition}
 use Rattle.set_partition_ranks.proofs.Ranks.{RankBy, Asked, some_block, key_upto, rank_fits, before-fits, others_fit, others_keyed, summed, no_other}
 use Rattle.set_partition_ranks.proofs.InBand.{InBand, in_band, back-before, others_reached}
 use borrow.Fn.Kinds.{In}

@@ -3,7 +3,7 @@
 use Rattle.std.specs.Prelude.{◌≡◌, true, ℕ, zero, suc, length, take, drop}
 use Rattle.listings.specs.Bytes.{Bytes}
 use Rattle.listings.specs.Places.{At}
-use Rattle.set_partitions.specs.KeyOrder.{Edition}
+use Rattle.set_partitions.specs.declared.edition.Edition.{Edition}
 use Rattle.set_partitions.specs.Objects.{is_set_partition, keys}
 use Rattle.set_partitions.specs.Listing.{set_partitions}
 

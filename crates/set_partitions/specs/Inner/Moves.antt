@@ -1,6 +1,6 @@
 -- What the search behind a step looks for, the first model whose key can move, and where the key goes.
 -- Assumes nothing.
-use Rattle.std.specs.Prelude.{◌≡◌, Bool, true, false, cond, not, ◌&&◌, ℕ, zero, suc, ◌+◌, ◌-◌, ◌<◌, max, ltb, eqb, length, get_or}
+use Rattle.std.specs.Prelude.{◌≡◌, Bool, true, false, cond, not, ◌&&◌, ℕ, zero, suc, ◌+◌, ◌-◌, ◌<◌, max, ltb, eqb, length, get_or, Option, None, Some}
 use Rattle.listings.specs.Bytes.{Bytes}
 use Rattle.set_partitions.specs.declared.stepping.Spot.{Spot}
 use Rattle.set_partitions.specs.KeyOrder.{Edition, one, two}
@@ -45,6 +45,6 @@ pub record FirstMove (late up : Bool) (x : Bytes) (r u : ℕ) : Type 0 where
   pub used : u ≡ used_before x r
 
 -- what a search for it says
-abbrev pub Searched : Bool → Bool → Bytes → Spot → Type 0
-Searched late up x Spot.Nowhere = (i : ℕ) → i < length x → moves_at late up x i ≡ false
-Searched late up x (Spot.At r u) = FirstMove late up x r u
+abbrev pub Searched : Bool → Bool → Bytes → Option Spot → Type 0
+Searched late up x None = (i : ℕ) → i < length x → moves_at late up x i ≡ false
+Searched late up x (Some s) = FirstMove late up x s.place s.used

@@ -4,7 +4,8 @@ use mathlib.Core.Path.{◌≡◌, refl, sym, subst}
 use Prim.Native.Nat.{suc, ◌+◌, ◌-◌, ◌*◌}
 use native.Mathlib.Omega.{arith}
 use borrow.Author.Rules.{rules}
-use Rattle.set_partitions.specs.KeyOrder.{one, two, edition_of}
+use Rattle.set_partitions.specs.KeyOrder.{edition_of}
+use Rattle.set_partitions.specs.declared.edition.Edition.TheVariants.{One as one, Two as two}
 use Rattle.set_partitions.specs.Inner.Keys.{earlier_by}
 use Rattle.set_partitions.proofs.KeyOrder.{edition_one, edition_two}
 use Rattle.set_partition_ranks.proofs.last_key.earlier.Statement.{statement}
