@@ -1,0 +1,11 @@
+use Rattle.std.proofs.Common.{rules, ◌≡◌, ◌≤◌, ◌<◌, length, get_or, ℕ, ◌+◌, ◌-◌, ◌*◌, slice_set, take, drop}
+use Rattle.basics.specs.Limits.{longest_object}
+use Rattle.dyck_words.specs.Inner.Reading.{RowRead, BranchRead, RowsFit, RowHere, Told}
+use Rattle.dyck_words.proofs.RowTable.{built_none, built_more}
+use Rattle.dyck_words.proofs.reading.row_lengths.Goals as goal
+
+pub loop-at-init : goal.loop-at-init
+loop-at-init c = built_none c.args.object.now c.requires
+
+pub loop-at-preserved : goal.loop-at-preserved
+loop-at-preserved c = built_more c.loop-at-test.true c.loop-at.invariant c.row_here.ensures
