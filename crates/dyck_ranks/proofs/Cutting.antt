@@ -13,10 +13,10 @@ use Rattle.dyck_words.specs.Objects.{is_dyck_word}
 use Rattle.dyck_words.specs.Trees.{Tree, size, word}
 use Rattle.dyck_words.specs.Listing.{dyck_words}
 use Rattle.dyck_words.specs.Inner.Moves.{Parts}
-use Rattle.dyck_words.specs.Inner.Reading.{Told}
+use Rattle.dyck_words.specs.Inner.Reading.{RowsTold}
 use Rattle.dyck_ranks.specs.Inner.Shorter.{shorter}
-use Rattle.dyck_words.proofs.Facts.{spelled, dyck_makes}
-use Rattle.dyck_words.proofs.Theorem.{long}
+use Rattle.dyck_words.proofs.Facts.{dyck_makes}
+use Rattle.dyck_words.proofs.Theorem.{long, spelled}
 use Rattle.dyck_words.proofs.Lent.{parted, rest_part, inside_part, whole_long, inside-long, rest_lent, inside-lent}
 use Rattle.dyck_ranks.proofs.Ranks.{word_at}
 
@@ -29,7 +29,7 @@ pub record Cut (n : ℕ) (x : Bytes) (len : ℕ) : Type 0 where
   pub outer_size : size outer ≡ n - 1 - len / 2
   pub within : len / 2 ≤ n - 1
 
-pub cut : (n : ℕ) (x : Bytes) {rows : Bytes} → is_dyck_word n x ≡ true → (n ≡ 0 → ⊥) → Told x rows → Cut n x (get_or rows 1 0)
+pub cut : (n : ℕ) (x : Bytes) {rows : Bytes} → is_dyck_word n x ≡ true → (n ≡ 0 → ⊥) → RowsTold x rows → Cut n x (get_or rows 1 0)
 cut n x o branched told =
     let e = long n x o in
     let (i, r, p) = parted (spelled n x o) told (λ z. branched (omega arith)) in
@@ -38,7 +38,7 @@ cut n x o branched told =
     record { inner = i; outer = r; parts = p; inner_size = omega arith; outer_size = omega arith; within = omega arith }
 
 -- so both parts stand within the bytes, and neither has more branches than are left
-module _ {n : ℕ} {x rows : Bytes} (o : is_dyck_word n x ≡ true) (branched : n ≡ 0 → ⊥) (told : Told x rows) where
+module _ {n : ℕ} {x rows : Bytes} (o : is_dyck_word n x ≡ true) (branched : n ≡ 0 → ⊥) (told : RowsTold x rows) where
   pub inside_fits : get_or rows 1 0 + 2 ≤ length x
   inside_fits = let c = cut n x o branched told in omega (arith, whole_long c.parts)
 

@@ -1,11 +1,10 @@
 -- Where a word stands: behind the words with a shorter inside, at the inside's place times the rests, at the rest's place.
 -- Assumes nothing.
 use mathlib.Core.Path.{◌≡◌, refl, sym, ◌∙◌, ap, ap₂, subst}
-use mathlib.Core.Logic.{⊎_elim}
 use mathlib.Core.Option.{Option, some}
 use mathlib.Core.List.{[], ◌∷◌, ◌++◌, flat_map}
 use Prim.Native.Nat.{ℕ, zero, suc, ◌+◌, ◌-◌, ◌*◌, ◌/◌, ◌%◌, ◌^◌, ◌≤◌, ◌<◌}
-use native.Mathlib.Nat.{zero-add, add-zero, eq-or-lt_of_le, lt_of_le_of_lt, mod-lt, div-lt_iff_lt-mul, div-add-mod'}
+use native.Mathlib.Nat.{zero-add, add-zero, lt_of_le_of_lt, mod-lt, div-lt_iff_lt-mul, div-add-mod'}
 use native.Mathlib.Decide.{le_ind}
 use native.Mathlib.Omega.{arith}
 use lib.ListN.{length}
@@ -112,25 +111,23 @@ empty_at {n} {x} e long = rw (e, trees-zero) (none x (omega arith))
 
 -- a rank falls into the words with a shorter inside, w rests for each earlier inside, and the rest's rank
 
-pub record Shared (m j rank s w : ℕ) : Type 0 where
-  pub rests : 0 < w
-  pub inside : (rank - s) / w < catalan_of j
-  pub rest : (rank - s) % w < catalan_of (m - j)
-  pub all : shorter m j + ((rank - s) / w * catalan_of (m - j) + (rank - s) % w) ≡ rank
+pub record Shared (m j rank left w : ℕ) : Type 0 where
+  pub inside : left / w < catalan_of j
+  pub rest : left % w < catalan_of (m - j)
+  pub all : shorter m j + (left / w * catalan_of (m - j) + left % w) ≡ rank
 
-pub shared : {m j rank s w : ℕ} → shorter m j ≤ rank → rank < shorter m (suc j) → s ≡ shorter m j → w ≡ catalan_of (m - j) → Shared m j rank s w
-shared {m} {j} {rank} {s} {w} low high e f =
+pub shared : {m j rank left w : ℕ} → shorter m j + left ≡ rank → rank < shorter m (suc j) → w ≡ catalan_of (m - j) → Shared m j rank left w
+shared {m} {j} {rank} {left} {w} whole high e =
     let positive : 0 < w = omega (arith, catalan_positive (m - j)) in
-    let room : rank - s < catalan_of j * w = rw f (omega (arith, shorter-suc m j)) in
+    let room : left < catalan_of j * w = rw e (omega (arith, shorter-suc m j)) in
     record {
-      rests = positive;
       inside = (div-lt_iff_lt-mul positive).1 room;
-      rest = rw (← f) (mod-lt (rank - s) positive);
-      all = rw (← e, ← f) (omega (arith, div-add-mod' (rank - s) w));
+      rest = rw (← e) (mod-lt left positive);
+      all = rw (← e) (omega (arith, div-add-mod' left w));
     }
 
 -- so the word of a rank is put together from the words of two
-pub unranked : (n : ℕ) {j rank s w : ℕ} {a b y : Bytes} → (n ≡ 0 → ⊥) → j ≤ n - 1 → Shared (n - 1) j rank s w
-    → At (dyck_words j) a ((rank - s) / w) → At (dyck_words (n - 1 - j)) b ((rank - s) % w) → y ≡ 1 ∷ (a ++ (0 ∷ b)) → At (dyck_words n) y rank
-unranked n {j} {rank} {s} {w} {y} branched h parts k m e =
-    subst (At (dyck_words n) y) parts.all (word_at n j ((rank - s) / w) ((rank - s) % w) branched h k m e)
+pub unranked : (n : ℕ) {j rank left w : ℕ} {a b y : Bytes} → (n ≡ 0 → ⊥) → j ≤ n - 1 → Shared (n - 1) j rank left w
+    → At (dyck_words j) a (left / w) → At (dyck_words (n - 1 - j)) b (left % w) → y ≡ 1 ∷ (a ++ (0 ∷ b)) → At (dyck_words n) y rank
+unranked n {j} {rank} {left} {w} {y = y} branched h parts k m e =
+    subst (At (dyck_words n) y) parts.all (word_at n j (left / w) (left % w) branched h k m e)

@@ -5,7 +5,7 @@ ghost use Rattle.numbers.specs.Numbers.{catalan_of};
 ghost use Rattle.listings.specs.Places.{At};
 ghost use Rattle.dyck_words.specs.Objects.{is_dyck_word};
 ghost use Rattle.dyck_words.specs.Listing.{dyck_words};
-ghost use Rattle.dyck_words.specs.Inner.Reading.{Told};
+ghost use Rattle.dyck_words.specs.Inner.Reading.{RowsTold};
 ghost use Rattle.dyck_ranks.specs.Inner.Shorter.{shorter};
 
 use counting::catalan_that_fits;
@@ -40,13 +40,14 @@ fn shorter_insides(n: u64, j: u64) -> u64
 #[tactic(auto, using(crate::proofs::Cutting::inside_fits, crate::proofs::Cutting::branches_fit, crate::proofs::Ranks::fewer_fit))]
 pub fn rank_of(n: u64, object: &[u8], rows: &[u8]) -> u64
     requires object_value { is_dyck_word n object.now ≡ true }
-    requires rows_told { Told object.now rows.now }
+    requires rows_told { RowsTold object.now rows.now }
     requires n_bound { catalan_of n < 2 ^ 64 }
     ensures { At (dyck_words n) object.now result }
 {
     if n == 0 {
         return 0;
     }
+    // the inside is the row that starts behind the 1
     let len = rows[1] as usize;
     let close = len + 1;
     let rest = len + 2;
@@ -58,21 +59,28 @@ pub fn rank_of(n: u64, object: &[u8], rows: &[u8]) -> u64
     shorter_insides(m, j) + inside_rank * ways(k) + rest_rank
 }
 
-// The size of the inside of the word of a rank, of n + 1 of each: as many have a smaller one as fit into the rank.
+// Where a rank falls among the words with n + 1 of each: the size of the inside, and the rank among the words with an inside of that size.
+#[derive(Clone, Copy)]
+struct RankedInside {
+    size: u64,
+    left: u64,
+}
+
+// As many words have a smaller inside as fit into the rank.
 #[tactic(auto, using(crate::proofs::Ranks::shares))]
-fn inside_size(rank: u64, n: u64) -> u64
+fn inside_of_rank(rank: u64, n: u64) -> RankedInside
     requires { (catalan_of (suc n) < 2 ^ 64) × (rank < catalan_of (suc n)) }
-    ensures { (result ≤ n) × (shorter n result ≤ rank) × (rank < shorter n (suc result)) }
+    ensures { (result.size ≤ n) × (shorter n result.size + result.left ≡ rank) × (rank < shorter n (suc result.size)) }
 {
     let mut left = rank;
-    for j in 0..n {
-        let share = with_inside(n, j);
-        if left < share {
-            return j;
+    for size in 0..n {
+        let words = with_inside(n, size);
+        if left < words {
+            return RankedInside { size, left };
         }
-        left -= share;
+        left -= words;
     }
-    n
+    RankedInside { size: n, left }
 }
 
 // Writes the word of a rank: what is left behind the shorter insides, divided by the rests, gives the ranks of the inside and the rest.
@@ -87,9 +95,8 @@ pub fn write_word(rank: u64, n: u64, object: &mut [u8])
         return;
     }
     let m = n - 1;
-    let j = inside_size(rank, m);
+    let RankedInside { size: j, left } = inside_of_rank(rank, m);
     let k = m - j;
-    let left = rank - shorter_insides(m, j);
     let rests = ways(k);
     let inside_rank = left / rests;
     let rest_rank = left % rests;

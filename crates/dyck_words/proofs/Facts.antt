@@ -86,9 +86,6 @@ dyck_cases n x e =
     let p : parse x ≡ t = ap parse q ∙ parse-word t in
     record { sized = rw p (omega (arith, word-length t, ap length q, eqb-true (length x) (2 * n) long)); spelled = rw p (sym q) }
 
-pub spelled : (n : ℕ) (x : Bytes) → is_dyck_word n x ≡ true → (t : Tree) × (x ≡ word t)
-spelled n x o = (parse x, sym (dyck_cases n x o).spelled)
-
 pub dyck_makes : {n : ℕ} (t : Tree) → size t ≡ n → is_dyck_word n (word t) ≡ true
 unfolding is_dyck_word
 dyck_makes {n} t sized = and_makes (eq-eqb (length (word t)) (2 * n) (omega (arith, word-length t))) (balanced_word t)

@@ -1,6 +1,6 @@
 -- What stands in a slice after parts of it were lent: the inside and the rest of a word, which step or are written anew.
 -- Assumes nothing.
-use mathlib.Core.Path.{◌≡◌, refl, sym, ◌∙◌, ap, ap₂}
+use mathlib.Core.Path.{◌≡◌, sym, ◌∙◌, ap, ap₂}
 use mathlib.Core.List.{[], ◌∷◌, ◌++◌, append_assoc}
 use Prim.Native.Nat.{ℕ, zero, suc, ◌+◌, ◌*◌, ◌-◌, ◌≤◌, ◌<◌}
 use native.Mathlib.Omega.{arith}
@@ -10,7 +10,7 @@ use borrow.Rule.Slice.PartMut.{mid_of, put_mid, mid_len, same_len_mid}
 use Rattle.basics.proofs.Lists.{lent_rest, put_rest, drop-set}
 use Rattle.listings.specs.Bytes.{Bytes}
 use Rattle.dyck_words.specs.Trees.{Tree, leaf, node, size, word}
-use Rattle.dyck_words.specs.Inner.Reading.{Stops, Told}
+use Rattle.dyck_words.specs.Inner.Reading.{Stops, RowsTold}
 use Rattle.dyck_words.specs.Inner.Moves.{Parts}
 use Rattle.dyck_words.proofs.Facts.{word-length, word_injective}
 use Rattle.std.proofs.lemmas.List.{get_or-drop}
@@ -60,24 +60,17 @@ stops_more : (b y : Bytes) → Stops b → Stops (b ++ (0 ∷ y))
 stops_more [] y s = λ z. omega arith
 stops_more (c ∷ b) y s = s
 
-told_behind : {y rows : Bytes} (a : Bytes) → Told (a ++ y) rows → Told y (drop (length a) rows)
+told_behind : {y rows : Bytes} (a : Bytes) → RowsTold (a ++ y) rows → RowsTold y (drop (length a) rows)
 told_behind {y} {rows} a told = record {
   long = omega (arith, told.long, length-append a y, length-drop (length a) rows);
   tells = λ c b t e s. get_or-drop (length a) rows (length c) 0 ∙ ap (λ k. get_or rows k 0) (sym (length-append a c)) ∙ told.tells (a ++ c) b t (ap (λ z. a ++ z) e ∙ simp append_assoc) s;
 }
 
-told_front : {rows : Bytes} (x y : Bytes) → Told (x ++ (0 ∷ y)) rows → Told x rows
+told_front : {rows : Bytes} (x y : Bytes) → RowsTold (x ++ (0 ∷ y)) rows → RowsTold x rows
 told_front {rows} x y told = record {
   long = omega (arith, told.long, length-append x (0 ∷ y));
   tells = λ a b t e s. told.tells a (b ++ (0 ∷ y)) t (ap (λ z. z ++ (0 ∷ y)) e ∙ simp append_assoc) (stops_more b y s);
 }
-
--- the empty word
-
-pub empty_leaf : (t : Tree) → length (word t) ≡ 0 → t ≡ leaf
-unfolding word
-empty_leaf leaf none = refl
-empty_leaf (node i r) none = absurd (omega arith)
 
 -- the inside and the rest of a word as they are lent, and what y in their place makes of the whole
 
@@ -151,19 +144,19 @@ module _ {x : Bytes} {len : ℕ} {i r : Tree} (p : Parts x len i r) where
 
   -- the table has the rows of both
 
-  pub rest_told : {rows : Bytes} → Told x rows → Told (rest_part x len) (mid_of (len + 2) (length rows - (len + 2)) rows)
+  pub rest_told : {rows : Bytes} → RowsTold x rows → RowsTold (rest_part x len) (mid_of (len + 2) (length rows - (len + 2)) rows)
   rest_told {rows} told = rw (rest_lent, lent_rest (len + 2) rows, ← front_long i p.long) (told_behind (1 ∷ (word i ++ (0 ∷ []))) (rw (p.whole, rest_apart i r) at told))
 
-  pub inside-told : {y rows : Bytes} → x ≡ y → Told y rows → Told (inside_part x len) (mid_of 1 (length rows - 1) rows)
+  pub inside-told : {y rows : Bytes} → x ≡ y → RowsTold y rows → RowsTold (inside_part x len) (mid_of 1 (length rows - 1) rows)
   unfolding word
   inside-told {rows = rows} e told = rw (inside-lent, lent_rest 1 rows) (told_front (word i) (word r) (told_behind (1 ∷ []) (rw (← e, p.whole) at told)))
 
 -- a word that isn't empty has its inside's length in the table
 
-pub parted : {x rows : Bytes} → (t : Tree) × (x ≡ word t) → Told x rows → (length x ≡ 0 → ⊥) → (i : Tree) × (r : Tree) × Parts x (get_or rows 1 0) i r
+pub parted : {x rows : Bytes} → (t : Tree) × (x ≡ word t) → RowsTold x rows → (length x ≡ 0 → ⊥) → (i : Tree) × (r : Tree) × Parts x (get_or rows 1 0) i r
 unfolding word
 parted (leaf, e) told some = absurd (some (ap length e))
 parted (node i r, e) told some = (i, r, record { whole = e; long = told.tells (1 ∷ []) (0 ∷ word r) i e (λ z. omega arith) })
 
-pub row_fits : {x rows : Bytes} → (t : Tree) × (x ≡ word t) → Told x rows → (length x ≡ 0 → ⊥) → get_or rows 1 0 + 2 ≤ length x
+pub row_fits : {x rows : Bytes} → (t : Tree) × (x ≡ word t) → RowsTold x rows → (length x ≡ 0 → ⊥) → get_or rows 1 0 + 2 ≤ length x
 row_fits spelled told some = let (i, r, p) = parted spelled told some in omega (arith, whole_long p)

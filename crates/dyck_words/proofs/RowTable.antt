@@ -9,15 +9,15 @@ use lib.Dec.{eqb}
 use lib.ListN.{length, get_or, set, take, drop, replicate, length-append, length-drop, length-set, length-take, length-replicate, drop_of_length-le}
 use lib.Seq.{get_or-set_same, get_or-set_other, drop-cons}
 use borrow.Author.Tests.{eqb-true, eqb-false}
-use Rattle.std.proofs.lemmas.List.{get_or-take, get_or-drop, get_or-replicate, drop-set, drop-set-lt}
+use Rattle.std.proofs.lemmas.List.{get_or-take, get_or-drop, get_or-replicate, drop-set}
 use Rattle.basics.specs.Limits.{longest_object}
 use Rattle.basics.proofs.Bools.{true_or_false}
 use Rattle.listings.specs.Bytes.{Bytes}
 use Rattle.dyck_words.specs.Trees.{Tree, leaf, node, word}
-use Rattle.dyck_words.specs.Inner.Reading.{RowsFit, RowHere, Stops, Told}
+use Rattle.dyck_words.specs.Inner.Reading.{RowHere, Stops, RowsTold}
 
 -- where the bytes end the row is empty
-told_end : {rows : Bytes} → 0 < length rows → get_or rows 0 0 ≡ 0 → Told [] rows
+told_end : {rows : Bytes} → 0 < length rows → get_or rows 0 0 ≡ 0 → RowsTold [] rows
 told_end {rows} some zero = record {
   long = some;
   tells = λ a b t e s.
@@ -27,7 +27,7 @@ told_end {rows} some zero = record {
 }
 
 -- a byte c in front of bytes y whose rows are known
-module _ {c l : ℕ} {y rows : Bytes} (told : Told y rows) (here : RowHere c (take (length y + 1) rows) l) where
+module _ {c l : ℕ} {y rows : Bytes} (told : RowsTold y rows) (here : RowHere c (take (length y + 1) rows) l) where
   behind : (k : ℕ) → k ≤ length y → get_or (take (length y + 1) rows) k 0 ≡ get_or rows k 0
   behind k h = get_or-take (length y + 1) rows k 0 (omega arith)
 
@@ -41,14 +41,14 @@ module _ {c l : ℕ} {y rows : Bytes} (told : Told y rows) (here : RowHere c (ta
       let front = length-append (word i) (0 ∷ []) in
       let close : get_or (take (length y + 1) rows) 0 0 + 1 ≡ length (word i ++ (0 ∷ [])) = omega arith in
       let rest : get_or (take (length y + 1) rows) (get_or (take (length y + 1) rows) 0 0 + 1) 0 ≡ length (word r) =
-          rw close (behind (length (word i ++ (0 ∷ []))) (omega arith) ∙ told.tells (word i ++ (0 ∷ [])) b r (parts ∙ simp append_assoc) s) in
+      rw close (behind (length (word i ++ (0 ∷ []))) (omega arith) ∙ told.tells (word i ++ (0 ∷ [])) b r (parts ∙ simp append_assoc) s) in
       omega (arith, here.some (ap (λ z. get_or z 0 0) e) (omega (arith, length-take (length y + 1) rows, told.long)), length-append (word i) (0 ∷ word r))
 
   tells_more : (a b : Bytes) (t : Tree) → c ∷ y ≡ a ++ (word t ++ b) → Stops b → get_or (l ∷ rows) (length a) 0 ≡ length (word t)
   tells_more [] b t e s = row-long b t e s
   tells_more (_ ∷ a) b t e s = told.tells a b t (ap (drop 1) e) s
 
-  told-cons : Told (c ∷ y) (l ∷ rows)
+  told-cons : RowsTold (c ∷ y) (l ∷ rows)
   told-cons = record { long = omega (arith, told.long); tells = tells_more }
 
 -- the rows of x from the place `at` on are in the table
@@ -57,7 +57,7 @@ pub record Built (x rows : Bytes) (at : ℕ) : Type 0 where
   pub short : length x ≤ longest_object
   pub full : length rows ≡ longest_object + 1
   pub low : (k : ℕ) → at ≤ k → k ≤ length x → k + get_or rows k 0 ≤ length x
-  pub told : Told (drop at x) (drop at rows)
+  pub told : RowsTold (drop at x) (drop at rows)
 
 pub built_none : (x : Bytes) → length x ≤ longest_object → Built x (replicate (longest_object + 1) 0) (length x)
 built_none x short = record {

@@ -1,8 +1,8 @@
 -- What a step of a part says of the word: the rest moved; or it stands at the edge, and the inside moved; or both stand at the edge.
 -- Assumes nothing.
 use mathlib.Core.Path.{◌≡◌, ap, subst}
-use mathlib.Core.Bool.{Bool}
-use Prim.Native.Nat.{ℕ, ◌*◌}
+use mathlib.Core.Bool.{Bool, true, false}
+use Prim.Native.Nat.{ℕ, ◌+◌, ◌*◌}
 use native.Mathlib.Omega.{arith}
 use lib.ListN.{length}
 use Rattle.listings.specs.Bytes.{Bytes}
@@ -11,8 +11,8 @@ use Rattle.listings.specs.declared.Step.TheVariants.{Moved, End}
 use Rattle.dyck_words.specs.Trees.{Tree, leaf, node, size, word}
 use Rattle.dyck_words.specs.Inner.Moves.{start_tree, AtEdge, AfterStep, Parts}
 use Rattle.dyck_words.proofs.Places.{leaf_edge}
-use Rattle.dyck_words.proofs.Neighbours.{rest_moves, inside-moves}
-use Rattle.dyck_words.proofs.Lent.{rest_part, with_rest, inside_part, with_inside, rest_long, only-node, rest_put, inside-put}
+use Rattle.dyck_words.proofs.Neighbours.{rest_moves, inside-moves, no_rest, no_inside}
+use Rattle.dyck_words.proofs.Lent.{rest_part, with_rest, inside_part, with_inside, rest_long, whole_long, inside-long, only-node, rest_put, inside-put}
 
 -- the empty word is at either edge
 pub empty_edge : {up : Bool} {x : Bytes} (t : Tree) → x ≡ word t → length x ≡ 0 → AtEdge up t
@@ -40,3 +40,11 @@ module _ (up : Bool) {x : Bytes} {len : ℕ} {i r : Tree} (p : Parts x len i r) 
 
   pub inside-stayed : {y : Bytes} → length y ≡ length (inside_part x len) → AfterStep up i End y → Parts (with_inside x len y) len i r × AtEdge up i
   inside-stayed same (e, h) = (inside-put p i e same, h)
+
+-- and there is no branch to move between the two
+
+pub end_without_rest : {up : Bool} {x : Bytes} {len : ℕ} {i r : Tree} → up ≡ true → len + 2 ≡ length x → Parts x len i r → AtEdge up i → AtEdge up r → (x ≡ word (node i r)) × AtEdge up (node i r)
+end_without_rest {i = i} {r} e none p h k = (p.whole, no_rest i r e (omega (arith, whole_long p)) h k)
+
+pub end_without_inside : {up : Bool} {x : Bytes} {len : ℕ} {i r : Tree} → up ≡ false → len ≡ 0 → Parts x len i r → AtEdge up i → AtEdge up r → (x ≡ word (node i r)) × AtEdge up (node i r)
+end_without_inside {i = i} {r} e none p h k = (p.whole, no_inside i r e (omega (arith, inside-long p)) h k)

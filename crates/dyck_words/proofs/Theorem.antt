@@ -166,6 +166,10 @@ counted n = length-map (trees n) word ∙ trees-counted n
 pub long : (n : ℕ) (x : Bytes) → is_dyck_word n x ≡ true → length x ≡ 2 * n
 long n x o = let d = dyck_cases n x o in rw (← d.spelled, word-length, d.sized)
 
--- so the table has room
+-- an object is the word of a tree
+pub spelled : (n : ℕ) (x : Bytes) → is_dyck_word n x ≡ true → (t : Tree) × (x ≡ word t)
+spelled n x o = (parse x, sym (dyck_cases n x o).spelled)
+
+-- and the table has room for its rows
 pub short : (n : ℕ) (x : Bytes) → n ≤ branches → is_dyck_word n x ≡ true → length x ≤ longest_object
 short n x h o = omega (arith, long n x o)

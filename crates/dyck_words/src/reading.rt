@@ -3,12 +3,12 @@
 
 ghost use Rattle.std.specs.Prelude.{◌≡◌, ◌≤◌, ◌<◌, length, get_or};
 ghost use Rattle.basics.specs.Limits.{longest_object};
-ghost use Rattle.dyck_words.specs.Inner.Reading.{RowRead, BranchRead, RowsFit, RowHere, Told};
+ghost use Rattle.dyck_words.specs.Inner.Reading.{RowRead, BranchRead, RowsFit, RowHere, RowsTold};
 
 use basics::LONGEST_OBJECT;
 
 // As many rows as the longest word has: one for each of its bytes, and one for its end.
-pub const ROWS: usize = LONGEST_OBJECT + 1;
+const ROWS: usize = LONGEST_OBJECT + 1;
 
 // Reads branches from a place on, until no 1 stands there, and answers where it came to; or None where no row stands there.
 #[cycle(branch_row)]
@@ -37,7 +37,7 @@ fn branch(object: &[u8], at: usize) -> Option<usize>
     Some(end + 1)
 }
 
-// How long the row is that starts with the byte first, in front of bytes whose rows are known: 1, an inside, 0, a rest.
+// How long the row is that starts with the byte first, in front of bytes whose rows are known, with one for their end: 1, an inside, 0, a rest.
 fn row_here(first: u8, behind: &[u8]) -> u8
     requires { RowsFit behind.now }
     ensures { RowHere first behind.now result }
@@ -56,7 +56,7 @@ fn row_here(first: u8, behind: &[u8]) -> u8
 // The table: for each place of a word that an object may be, and for its end, how long the row is that starts there. One pass from the right.
 pub fn row_lengths(object: &[u8]) -> [u8; ROWS]
     requires { length object.now ≤ longest_object }
-    ensures { Told object.now result }
+    ensures { RowsTold object.now result }
 {
     let mut rows = [0; ROWS];
     for at in (0..object.len()).rev() {

@@ -1,5 +1,6 @@
 // The steps of Dyck words, one function for both directions: the rest moves first, then the inside, then the inside's length; what lies behind
-// the place that moved starts over. Each part of a word is lent with the table of the whole word's rows, and with how many of its bytes are left where the part starts.
+// the place that moved starts over. Each part of a word is lent beside its part of the table of rows: two slices and no struct with that as its
+// invariant, since the bytes are written while the table stays.
 ghost use Rattle.std.specs.Prelude.{◌≡◌, true, ℕ, suc, ◌+◌, ◌*◌, ◌≤◌, ◌<◌, length};
 ghost use Rattle.basics.specs.Limits.{branches};
 ghost use Rattle.listings.specs.Calls.{Said, act};
@@ -9,7 +10,7 @@ ghost use Rattle.dyck_words.specs.Objects.{is_dyck_word};
 ghost use Rattle.dyck_words.specs.Trees.{Tree, node, word, dyck_before};
 ghost use Rattle.dyck_words.specs.Listing.{dyck_words};
 ghost use Rattle.dyck_words.specs.Inner.Moves.{start_tree, AtEdge, AfterStep, Parts};
-ghost use Rattle.dyck_words.specs.Inner.Reading.{Told};
+ghost use Rattle.dyck_words.specs.Inner.Reading.{RowsTold};
 
 use crate::reading::row_lengths;
 use listings::Step;
@@ -43,6 +44,7 @@ fn write_parts(up: bool, object: &mut [u8], close: usize)
 }
 
 // The inside longer by one branch, or going back shorter by one, and both parts started over; or END where there is no branch to take.
+#[tactic(auto, using(crate::proofs::Steps::end_without_rest, crate::proofs::Steps::end_without_inside))]
 fn resize_inside(up: bool, object: &mut [u8], len: usize) -> Step
     requires { (i : Tree) × (r : Tree) × Parts object.old len i r }
     ensures { (i r : Tree) → Parts object.old len i r → AtEdge up i → AtEdge up r → AfterStep up (node i r) result object.new }
@@ -65,12 +67,13 @@ fn resize_inside(up: bool, object: &mut [u8], len: usize) -> Step
 #[tactic(auto, using(crate::proofs::Lent::row_fits, crate::proofs::Steps::empty_edge))]
 fn step(up: bool, object: &mut [u8], rows: &[u8]) -> Step
     requires object_value { (t : Tree) × (object.old ≡ word t) }
-    requires rows_told { Told object.old rows.now }
+    requires rows_told { RowsTold object.old rows.now }
     ensures { (t : Tree) → object.old ≡ word t → AfterStep up t result object.new }
 {
     if object.is_empty() {
         return Step::End;
     }
+    // the inside is the row that starts behind the 1
     let len = rows[1] as usize;
     let close = len + 1;
     let rest = len + 2;
@@ -85,7 +88,7 @@ fn step(up: bool, object: &mut [u8], rows: &[u8]) -> Step
 }
 
 // The word just after, or going back just before.
-#[tactic(auto, using(crate::proofs::Theorem::short, crate::proofs::Facts::spelled))]
+#[tactic(auto, using(crate::proofs::Theorem::short, crate::proofs::Theorem::spelled))]
 pub fn step_word(up: bool, n: u64, object: &mut [u8]) -> Step
     requires n_le_branches { n ≤ branches }
     requires object_value { is_dyck_word n object.old ≡ true }

@@ -1,6 +1,6 @@
 -- What the readers of a word say to each other, to the steps and to the ranks. No contract of a call on a kind cites this file.
 -- Assumes nothing.
-use Rattle.std.specs.Prelude.{◌≡◌, false, ◌++◌, ℕ, suc, ◌+◌, ◌≤◌, ◌<◌, length, get_or, drop, Option, Some, None}
+use Rattle.std.specs.Prelude.{◌≡◌, false, ◌++◌, ℕ, ◌+◌, ◌≤◌, ◌<◌, length, get_or, drop, Option, Some, None}
 use Rattle.basics.specs.Limits.{longest_object}
 use Rattle.listings.specs.Bytes.{Bytes}
 use Rattle.dyck_words.specs.Objects.{balanced_from}
@@ -43,6 +43,6 @@ abbrev pub Stops : Bytes → Type 0
 Stops y = get_or y 0 0 ≡ 1 → ⊥
 
 -- the table has the length of each row of x, by the place where it starts
-pub record Told (x rows : Bytes) : Type 0 where
+pub record RowsTold (x rows : Bytes) : Type 0 where
   pub long : length x < length rows
   pub tells : (a b : Bytes) (t : Tree) → x ≡ a ++ (word t ++ b) → Stops b → get_or rows (length a) 0 ≡ length (word t)

@@ -1,6 +1,5 @@
 -- A word stands where its inside and its rest say.
-use Rattle.std.proofs.Common.{ℕ, ◌≡◌, ◌+◌, ◌*◌, ◌-◌, ◌/◌, ◌<◌, ◌^◌, refl, arith}
-use Rattle.numbers.specs.Numbers.{catalan_of}
+use Rattle.std.proofs.Common.{ℕ, ◌+◌, ◌*◌, ◌<◌, ◌^◌, refl, arith}
 use Rattle.listings.specs.Places.{At}
 use Rattle.listings.proofs.PlaceRules.{at_below}
 use Rattle.dyck_words.specs.Listing.{dyck_words}

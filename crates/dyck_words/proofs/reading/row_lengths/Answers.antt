@@ -1,6 +1,3 @@
-use Rattle.std.proofs.Common.{rules, ◌≡◌, ◌≤◌, ◌<◌, length, get_or, ℕ, ◌+◌, ◌-◌, ◌*◌, slice_set, take, drop}
-use Rattle.basics.specs.Limits.{longest_object}
-use Rattle.dyck_words.specs.Inner.Reading.{RowRead, BranchRead, RowsFit, RowHere, Told}
 use Rattle.dyck_words.proofs.RowTable.{built_none, built_more}
 use Rattle.dyck_words.proofs.reading.row_lengths.Goals as goal
 

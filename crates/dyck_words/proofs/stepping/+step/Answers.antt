@@ -1,17 +1,17 @@
 -- The rest moves; or the inside does, and the rest starts over; or the inside changes its size.
-use Rattle.std.proofs.Common.{◌≡◌, ℕ, Bool, false, eqb, length, get_or, sym, ◌∙◌, arith}
+use Rattle.std.proofs.Common.{◌≡◌, Bool, false, eqb, length, get_or, sym, ◌∙◌, arith}
 use borrow.Author.Tests.{eqb-false}
 use Rattle.listings.specs.Bytes.{Bytes}
 use Rattle.listings.specs.declared.Step.TheVariants.{Moved}
-use Rattle.dyck_words.specs.Trees.{Tree, word, size}
+use Rattle.dyck_words.specs.Trees.{Tree, word}
 use Rattle.dyck_words.specs.Inner.Moves.{Parts}
-use Rattle.dyck_words.specs.Inner.Reading.{Told}
+use Rattle.dyck_words.specs.Inner.Reading.{RowsTold}
 use Rattle.dyck_words.proofs.Lent.{parted, whole_long, rest_lent, rest_long, rest_told, inside-lent, inside_part_long, inside-told}
 use Rattle.dyck_words.proofs.Steps.{of_any, rest_moved, rest_stayed, inside-moved, inside-stayed}
 use Rattle.dyck_words.proofs.stepping.+step.Goals as goal
 
 -- the word's inside and rest
-parts : {x rows : Bytes} {b : Bool} → (t : Tree) × (x ≡ word t) → Told x rows → b ≡ eqb (length x) 0 → b ≡ false → (i : Tree) × (r : Tree) × Parts x (get_or rows 1 0) i r
+parts : {x rows : Bytes} {b : Bool} → (t : Tree) × (x ≡ word t) → RowsTold x rows → b ≡ eqb (length x) 0 → b ≡ false → (i : Tree) × (r : Tree) × Parts x (get_or rows 1 0) i r
 parts {x} spelled told tested some = parted spelled told (eqb-false (length x) 0 (sym tested ∙ some))
 
 pub step-requires : goal.step-requires

@@ -1,16 +1,13 @@
--- With no rest the tree is the last, and with no inside the first; else a branch goes from the one to the other, and both start over.
+-- A branch goes from the rest to the inside, or going back from the inside to the rest, and both start over.
 use Rattle.std.proofs.Common.{suc, ◌-◌, arith}
 use Rattle.dyck_words.specs.Trees.{node, size}
 use Rattle.dyck_words.specs.Inner.Moves.{start_tree}
-use Rattle.dyck_words.proofs.Neighbours.{no_rest, no_inside, grows, shrinks}
+use Rattle.dyck_words.proofs.Neighbours.{grows, shrinks}
 use Rattle.dyck_words.proofs.Lent.{whole_long, inside-long}
 use Rattle.dyck_words.proofs.stepping.resize_inside.Goals as goal
 
 pub overflow_add-len : goal.overflow_add-len
 overflow_add-len c = omega (arith, whole_long c.requires.2)
-
-pub returns-then-len-object : goal.returns-then-len-object
-returns-then-len-object c i r p h k = (p.whole, no_rest i r c.if-up.true (omega (arith, whole_long p)) h k)
 
 pub overflow_add-len-then-up : goal.overflow_add-len-then-up
 overflow_add-len-then-up c = omega (arith, whole_long c.requires.2)
@@ -24,9 +21,6 @@ returns-then-up c i r p h k =
     let half = inside-long p in
     let m = size r - 1 in
     (node (start_tree c.args.up (suc (size i))) (start_tree c.args.up m), c.write_parts.ensures (suc (size i)) m (omega arith) (omega arith), grows i r m c.if-up.true (omega arith) h k)
-
-pub returns-then-len-eq0 : goal.returns-then-len-eq0
-returns-then-len-eq0 c i r p h k = (p.whole, no_inside i r c.if-up.false (omega (arith, inside-long p)) h k)
 
 pub write_parts-requires-2 : goal.write_parts-requires-2
 write_parts-requires-2 c = (omega (arith, inside-long c.requires.2), omega (arith, whole_long c.requires.2))
