@@ -15,6 +15,7 @@ mod ranking;
 use dyck_words::row_lengths;
 
 // How many words come before it.
+#[tactic(auto, using(dyck_words::proofs::Theorem::short, crate::proofs::Ranks::place_tells))]
 pub fn rank(n: u64, object: &[u8]) -> u64
     requires n_le_branches { n ≤ branches }
     requires object_value { is_dyck_word n object.now ≡ true }
@@ -22,7 +23,7 @@ pub fn rank(n: u64, object: &[u8]) -> u64
     ensures { result ≡ count_before dyck_before object.now (dyck_words n) }
 {
     let rows = row_lengths(object);
-    ranking::rank_of(n, object, &rows, object.len())
+    ranking::rank_of(n, object, &rows)
 }
 
 // The word of a rank.

@@ -1,19 +1,19 @@
 -- What stands in a slice after parts of it were lent: the inside and the rest of a word, which step or are written anew.
 -- Assumes nothing.
-use mathlib.Core.Path.{◌≡◌, refl, sym, ◌∙◌, ap, ap₂}
+use mathlib.Core.Path.{◌≡◌, sym, ◌∙◌, ap, ap₂}
 use mathlib.Core.List.{[], ◌∷◌, ◌++◌, append_assoc}
-use Prim.Native.Nat.{ℕ, zero, suc, ◌+◌, ◌*◌, ◌-◌, ◌<◌}
+use Prim.Native.Nat.{ℕ, zero, suc, ◌+◌, ◌*◌, ◌-◌, ◌≤◌, ◌<◌}
 use native.Mathlib.Omega.{arith}
-use lib.ListN.{length, get_or, take, drop, set, length-append, length-set}
+use lib.ListN.{length, get_or, take, drop, set, length-append, length-drop, length-set}
 use lib.Seq.{take_at, drop_at, append_snoc}
 use borrow.Rule.Slice.PartMut.{mid_of, put_mid, mid_len, same_len_mid}
 use Rattle.basics.proofs.Lists.{lent_rest, put_rest, drop-set}
 use Rattle.listings.specs.Bytes.{Bytes}
 use Rattle.dyck_words.specs.Trees.{Tree, leaf, node, size, word}
-use Rattle.dyck_words.specs.Inner.Reading.{Told}
+use Rattle.dyck_words.specs.Inner.Reading.{Stops, RowsTold}
 use Rattle.dyck_words.specs.Inner.Moves.{Parts}
 use Rattle.dyck_words.proofs.Facts.{word-length, word_injective}
-use Rattle.dyck_words.proofs.RowTable.{stops_more}
+use Rattle.std.proofs.lemmas.List.{get_or-drop}
 
 -- the slice with a 1 in front and a 0 at `close`, and with an inside a between them
 
@@ -53,17 +53,24 @@ laid x a close low within same =
       same-long = λ b h. same_len_mid (close + 1) (length (filled x close a) - (close + 1)) (filled x close a) b h ∙ as_long;
     }
 
--- a word is empty, or has parts
+-- the rows of a part of the bytes
 
-pub empty_leaf : (t : Tree) → length (word t) ≡ 0 → t ≡ leaf
-unfolding word
-empty_leaf leaf none = refl
-empty_leaf (node i r) none = absurd (omega arith)
+-- a row that ends in front of some bytes still does with a 0 and more behind them
+stops_more : (b y : Bytes) → Stops b → Stops (b ++ (0 ∷ y))
+stops_more [] y s = λ z. omega arith
+stops_more (c ∷ b) y s = s
 
-pub parted : (t : Tree) {x : Bytes} {len : ℕ} → x ≡ word t → (length x ≡ 0 → ⊥) → ((i r : Tree) → x ≡ word (node i r) → len ≡ length (word i)) → (i : Tree) × (r : Tree) × Parts x len i r
-unfolding word
-parted leaf e some found = absurd (some (ap length e))
-parted (node i r) e some found = (i, r, record { whole = e; long = found i r e })
+told_behind : {y rows : Bytes} (a : Bytes) → RowsTold (a ++ y) rows → RowsTold y (drop (length a) rows)
+told_behind {y} {rows} a told = record {
+  long = omega (arith, told.long, length-append a y, length-drop (length a) rows);
+  tells = λ c b t e s. get_or-drop (length a) rows (length c) 0 ∙ ap (λ k. get_or rows k 0) (sym (length-append a c)) ∙ told.tells (a ++ c) b t (ap (λ z. a ++ z) e ∙ simp append_assoc) s;
+}
+
+told_front : {rows : Bytes} (x y : Bytes) → RowsTold (x ++ (0 ∷ y)) rows → RowsTold x rows
+told_front {rows} x y told = record {
+  long = omega (arith, told.long, length-append x (0 ∷ y));
+  tells = λ a b t e s. told.tells a (b ++ (0 ∷ y)) t (ap (λ z. z ++ (0 ∷ y)) e ∙ simp append_assoc) (stops_more b y s);
+}
 
 -- the inside and the rest of a word as they are lent, and what y in their place makes of the whole
 
@@ -137,21 +144,19 @@ module _ {x : Bytes} {len : ℕ} {i r : Tree} (p : Parts x len i r) where
 
   -- the table has the rows of both
 
-  pub rest_told : {left : ℕ} {rows : Bytes} → Told x left rows → Told (rest_part x len) (left - (len + 2)) rows
-  unfolding word
-  rest_told {left} {rows} told = record {
-    low = told.low;
-    tells = λ a b t g s.
-        let place : left - (len + 2) - length a ≡ left - length (1 ∷ (word i ++ (0 ∷ a))) = omega (arith, p.long, length-append (word i) (0 ∷ a)) in
-        ap (λ k. get_or rows k 0) place ∙ told.tells (1 ∷ (word i ++ (0 ∷ a))) b t (p.whole ∙ ap (λ z. 1 ∷ (word i ++ (0 ∷ z))) (sym rest_lent ∙ g) ∙ simp append_assoc) s;
-  }
+  pub rest_told : {rows : Bytes} → RowsTold x rows → RowsTold (rest_part x len) (mid_of (len + 2) (length rows - (len + 2)) rows)
+  rest_told {rows} told = rw (rest_lent, lent_rest (len + 2) rows, ← front_long i p.long) (told_behind (1 ∷ (word i ++ (0 ∷ []))) (rw (p.whole, rest_apart i r) at told))
 
-  pub inside-told : {y : Bytes} {left : ℕ} {rows : Bytes} → x ≡ y → Told y left rows → Told (inside_part x len) (left - 1) rows
+  pub inside-told : {y rows : Bytes} → x ≡ y → RowsTold y rows → RowsTold (inside_part x len) (mid_of 1 (length rows - 1) rows)
   unfolding word
-  inside-told {left} {rows} e told = record {
-    low = told.low;
-    tells = λ a b t g s.
-        let split : word i ++ (0 ∷ word r) ≡ a ++ (word t ++ (b ++ (0 ∷ word r))) = ap (λ z. z ++ (0 ∷ word r)) (sym inside-lent ∙ g) ∙ simp append_assoc in
-        let place : left - 1 - length a ≡ left - length (1 ∷ a) = omega arith in
-        ap (λ k. get_or rows k 0) place ∙ told.tells (1 ∷ a) (b ++ (0 ∷ word r)) t (sym e ∙ p.whole ∙ ap (λ z. 1 ∷ z) split) (stops_more b (word r) s);
-  }
+  inside-told {rows = rows} e told = rw (inside-lent, lent_rest 1 rows) (told_front (word i) (word r) (told_behind (1 ∷ []) (rw (← e, p.whole) at told)))
+
+-- a word that isn't empty has its inside's length in the table
+
+pub parted : {x rows : Bytes} → (t : Tree) × (x ≡ word t) → RowsTold x rows → (length x ≡ 0 → ⊥) → (i : Tree) × (r : Tree) × Parts x (get_or rows 1 0) i r
+unfolding word
+parted (leaf, e) told some = absurd (some (ap length e))
+parted (node i r, e) told some = (i, r, record { whole = e; long = told.tells (1 ∷ []) (0 ∷ word r) i e (λ z. omega arith) })
+
+pub row_fits : {x rows : Bytes} → (t : Tree) × (x ≡ word t) → RowsTold x rows → (length x ≡ 0 → ⊥) → get_or rows 1 0 + 2 ≤ length x
+row_fits spelled told some = let (i, r, p) = parted spelled told some in omega (arith, whole_long p)

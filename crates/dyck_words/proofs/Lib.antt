@@ -8,4 +8,5 @@ pub mod Testing
 pub mod TreeOrder
 pub mod RowTable
 pub mod Lent
+pub mod Steps
 pub mod Dictionary

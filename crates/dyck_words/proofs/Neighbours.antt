@@ -1,6 +1,6 @@
 -- Which tree follows which, on and back: the rest moves; or the inside does and the rest starts over; or the inside's size changes and both start over. And what that says of their words.
 -- Assumes nothing.
-use mathlib.Core.Path.{◌≡◌, subst}
+use mathlib.Core.Path.{◌≡◌, sym, subst}
 use mathlib.Core.Bool.{Bool, true, false, not}
 use mathlib.Core.List.{List}
 use Prim.Native.Nat.{ℕ, suc, ◌+◌}
@@ -89,7 +89,10 @@ last_word n e = rw e (edge_last (word_edge n (start_edge false n)))
 
 -- what a step on the tree of a word says of the word
 module _ (up : Bool) (n : ℕ) (x : Bytes) (o : is_dyck_word n x ≡ true) where
-  pub said : (s : Step) (y : Bytes) → AfterStep up (parse x) s y → ◌≡◌ {A = Said} (step_as s, y) (act (step_call up) dyck_before (dyck_words n) x)
+  said_of : (s : Step) (y : Bytes) → AfterStep up (parse x) s y → ◌≡◌ {A = Said} (step_as s, y) (act (step_call up) dyck_before (dyck_words n) x)
   unfolding dyck_words
-  said Moved y (u, e, f) = let d = dyck_cases n x o in rw e (steps (lists n) (rw (d.spelled, d.sized) at (beside_by word (λ t u. follows_map word) f)))
-  said End y (e, l) = let d = dyck_cases n x o in rw (e, d.spelled) (stops (lists n) (rw (d.spelled, d.sized) at (word_edge (size (parse x)) l)))
+  said_of Moved y (u, e, f) = let d = dyck_cases n x o in rw e (steps (lists n) (rw (d.spelled, d.sized) at (beside_by word (λ t u. follows_map word) f)))
+  said_of End y (e, l) = let d = dyck_cases n x o in rw (e, d.spelled) (stops (lists n) (rw (d.spelled, d.sized) at (word_edge (size (parse x)) l)))
+
+  pub said : (s : Step) (y : Bytes) → ((t : Tree) → x ≡ word t → AfterStep up t s y) → ◌≡◌ {A = Said} (step_as s, y) (act (step_call up) dyck_before (dyck_words n) x)
+  said s y stepped = said_of s y (stepped (parse x) (sym (dyck_cases n x o).spelled))

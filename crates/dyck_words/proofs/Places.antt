@@ -2,12 +2,14 @@
 -- Assumes nothing.
 use mathlib.Core.Path.{◌≡◌, refl, sym, ◌∙◌, ap, subst}
 use mathlib.Core.Bool.{Bool, true, false, not}
-use mathlib.Core.List.{[], ◌∷◌, ◌++◌, map, append_assoc}
-use Prim.Native.Nat.{ℕ, zero, suc, ◌+◌, ◌*◌, ◌%◌}
+use mathlib.Core.List.{[], ◌∷◌, ◌++◌, append_assoc}
+use Prim.Native.Nat.{ℕ, zero, suc, ◌+◌, ◌*◌, ◌%◌, ◌<◌}
 use native.Mathlib.Numerals.{add-one}
+use native.Mathlib.Nat.{zero-add}
 use native.Mathlib.Omega.{arith}
-use lib.ListN.{replicate, replicate-append-replicate}
+use lib.ListN.{length, get_or, replicate, replicate-append-replicate}
 use Rattle.basics.specs.Sums.{range}
+use Rattle.listings.specs.Bytes.{Bytes}
 use Rattle.listings.specs.Directions.{Edge, latest, earliest}
 use Rattle.listings.proofs.ChoicePlaces.{edge_choice}
 use Rattle.listings.proofs.PlaceRules.{first-flat_map, last-flat_map, at_range_from, last-range}
@@ -51,28 +53,31 @@ start_edge false (suc n) = subst (λ m. Edge true (trees (suc m)) (node (last_tr
 
 -- their words
 
--- the byte of the first word at place i
-abbrev pub bit : ℕ → ℕ
-bit i = (i + 1) % 2
+alternates_from : (n a : ℕ) (x : Bytes) → a % 2 ≡ 0 → length x ≡ 2 * n → ((k : ℕ) → k < length x → get_or x k 0 ≡ (a + k + 1) % 2) → x ≡ word (first_tree n)
+unfolding word first_tree
+alternates_from zero a [] even long reads = refl
+alternates_from zero a (b ∷ x) even long reads = absurd (omega arith)
+alternates_from (suc n) a [] even long reads = absurd (omega arith)
+alternates_from (suc n) a (b ∷ []) even long reads = absurd (omega arith)
+alternates_from (suc n) a (b ∷ c ∷ x) even long reads =
+    let one : b ≡ 1 = omega (arith, reads 0 (omega arith)) in
+    let none : c ≡ 0 = omega (arith, reads 1 (omega arith)) in
+    rw (one, none, alternates_from n (a + 2) x (omega arith) (omega arith) (λ k h. reads (suc (suc k)) (omega arith) ∙ ap (λ (m : ℕ). m % 2) (omega arith)))
 
-alternates_from : (n a : ℕ) → a % 2 ≡ 0 → map bit (range a (2 * n)) ≡ word (first_tree n)
-unfolding range word first_tree
-alternates_from zero a even = refl
-alternates_from (suc n) a even =
-    let twice : 2 * suc n ≡ suc (suc (2 * n)) = omega arith in
-    let one : (a + 1) % 2 ≡ 1 = omega arith in
-    let none : (suc a + 1) % 2 ≡ 0 = omega arith in
-    rw (twice, one, none, alternates_from n (suc (suc a)) (omega arith))
-
-pub alternates : (n : ℕ) → map bit (range 0 (2 * n)) ≡ word (first_tree n)
-alternates n = alternates_from n 0 refl
+-- 1 0 1 0 ..
+pub alternates : {up : Bool} (n : ℕ) {x : Bytes} → up ≡ true → length x ≡ 2 * n → ((k : ℕ) → k < length x → get_or x k 0 ≡ (k + 1) % 2) → x ≡ word (start_tree up n)
+alternates n {x} e long reads = rw e (alternates_from n 0 x refl long (λ k h. rw zero-add (reads k h)))
 
 one_more : (n : ℕ) → replicate {A = ℕ} (suc n) 1 ++ replicate {A = ℕ} (suc n) 0 ≡ 1 ∷ ((replicate n 1 ++ replicate n 0) ++ (0 ∷ []))
 one_more n =
     let more : replicate {A = ℕ} n 0 ++ (0 ∷ []) ≡ 0 ∷ replicate n 0 = replicate-append-replicate n 1 0 ∙ ap (λ k. replicate k 0) (add-one n) in
     rw (append_assoc, more)
 
-pub nested : (n : ℕ) → replicate n 1 ++ replicate n 0 ≡ word (last_tree n)
+nested_halves : (n : ℕ) → replicate n 1 ++ replicate n 0 ≡ word (last_tree n)
 unfolding word last_tree
-nested zero = refl
-nested (suc n) = one_more n ∙ ap (λ x. 1 ∷ (x ++ (0 ∷ []))) (nested n)
+nested_halves zero = refl
+nested_halves (suc n) = one_more n ∙ ap (λ x. 1 ∷ (x ++ (0 ∷ []))) (nested_halves n)
+
+-- 1 .. 1 0 .. 0
+pub nested : {up : Bool} (n : ℕ) {p q : ℕ} {a b : Bytes} → up ≡ false → a ≡ replicate p 1 → b ≡ replicate q 0 → p ≡ n → q ≡ n → a ++ b ≡ word (start_tree up n)
+nested n e ones zeros f g = rw (e, ones, zeros, f, g) (nested_halves n)

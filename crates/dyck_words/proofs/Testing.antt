@@ -12,9 +12,9 @@ use lib.Dec.{eqb}
 use lib.ListN.{length, get_or, drop, drop_of_length-le}
 use lib.Seq.{drop-cons, drop-length}
 use borrow.Author.Tests.{eq-eqb, ne_eqb}
+use Rattle.std.proofs.Common.{Option, Some, None}
+use Rattle.std.specs.Option.{option_eq}
 use Rattle.listings.specs.Bytes.{Bytes}
-use Rattle.dyck_words.specs.declared.reading.Read.{Read}
-use Rattle.dyck_words.specs.declared.reading.Read.TheVariants.{To, Broken}
 use Rattle.dyck_words.specs.Objects.{balanced_from, is_dyck_word}
 use Rattle.dyck_words.specs.Inner.Reading.{Passed, Fails, RowRead, BranchRead}
 
@@ -42,16 +42,6 @@ module _ (x : Bytes) (i : ℕ) (within : i < length x) where
   unfolding balanced_from
   down_at e h = rw (drop-cons x i 0 within, e, add-one)
 
--- a row
-
-pub row_stays : {x : Bytes} {i : ℕ} → i ≤ length x → (get_or x i 0 ≡ 1 → ⊥) → RowRead x i (To i)
-row_stays within ones = (record { onward = omega arith; inside = within; same = λ h. refl }, ones)
-
-pub row_goes : {x : Bytes} {i j : ℕ} → Passed x i j → (r : Read) → RowRead x j r → RowRead x i r
-row_goes p (To e) q =
-    (record { onward = omega (arith, p.onward, q.0.onward); inside = q.0.inside; same = λ h. p.same h ∙ q.0.same h }, q.1)
-row_goes p Broken q = λ h. p.same h ∙ q h
-
 -- a branch, which begins with a 1
 
 module _ (x : Bytes) (i : ℕ) (one : (i < length x) × (get_or x i 0 ≡ 1)) where
@@ -67,29 +57,28 @@ module _ (x : Bytes) (i : ℕ) (one : (i < length x) × (get_or x i 0 ≡ 1)) wh
   branch_open p ends h = behind_one h ∙ p.same (suc h) ∙ ap (balanced_from (suc h)) (drop_of_length-le x ends) ∙ ne_eqb (suc h) 0 (λ e. omega arith)
 
   -- or another byte stands there
-  pub branch_stuck : {e : ℕ} → RowRead x (i + 1) (To e) → e < length x → (get_or x e 0 ≡ 0 → ⊥) → Fails x i
+  pub branch_stuck : {e : ℕ} → RowRead x (i + 1) (Some e) → e < length x → (get_or x e 0 ≡ 0 → ⊥) → Fails x i
   branch_stuck {e} p inside zeros h =
       behind_one h ∙ p.0.same (suc h) ∙ ap (balanced_from (suc h)) (drop-cons x e 0 inside) ∙ neither (suc h) (get_or x e 0) (drop (suc e) x) zeros p.1
 
   -- where its row ends a 0 stands
-  pub branch_closes : {e : ℕ} → Passed x (i + 1) e → e < length x → get_or x e 0 ≡ 0 → BranchRead x i (To (e + 1))
+  pub branch_closes : {e : ℕ} → Passed x (i + 1) e → e < length x → get_or x e 0 ≡ 0 → BranchRead x i (Some (e + 1))
   branch_closes {e} p inside zeros =
       (record { onward = omega (arith, p.onward); inside = omega arith; same = λ h. behind_one h ∙ p.same (suc h) ∙ down_at x e inside zeros h }, omega (arith, p.onward))
 
+pub ruleset branch_reads = (branch_fails, branch_open, branch_stuck, branch_closes)
+
 -- the test
 
-pub no_object : (n : ℕ) (x : Bytes) → Fails x 0 → false ≡ is_dyck_word n x
-unfolding is_dyck_word
-no_object n x fails = rw (fails 0) (sym (and-false (eqb (length x) (2 * n))))
-
-pub wrong_length : (n : ℕ) (x : Bytes) → (length x ≡ 2 * n → ⊥) → false ≡ is_dyck_word n x
+pub wrong_length : (n : ℕ) (x : Bytes) → (length x ≡ 2 * n → ⊥) → eqb (length x) (2 * n) ≡ is_dyck_word n x
 unfolding is_dyck_word
 wrong_length n x other = rw (ne_eqb (length x) (2 * n) other)
 
 -- the row from the start has to come to the end
-pub row-tells : (n : ℕ) (x : Bytes) {e : ℕ} → length x ≡ 2 * n → RowRead x 0 (To e) → eqb e (length x) ≡ is_dyck_word n x
+pub row_tells : (n : ℕ) (x : Bytes) (o : Option ℕ) → length x ≡ 2 * n → RowRead x 0 o → option_eq eqb o (Some (length x)) ≡ is_dyck_word n x
 unfolding is_dyck_word balanced_from
-row-tells n x {e} long p = rw (eq-eqb (length x) (2 * n) long, p.0.same 0) (by_end (eq-or-lt_of_le p.0.inside))
+row_tells n x None long fails = rw (fails 0) (sym (and-false (eqb (length x) (2 * n))))
+row_tells n x (Some e) long p = rw (eq-eqb (length x) (2 * n) long, p.0.same 0) (by_end (eq-or-lt_of_le p.0.inside))
   where
     by_end : (e ≡ length x) ⊎ (e < length x) → eqb e (length x) ≡ balanced_from 0 (drop e x)
     by_end (inl ends) = rw (eq-eqb e (length x) ends, ends, drop-length)

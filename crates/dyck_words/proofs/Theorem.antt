@@ -11,6 +11,7 @@ use lib.Dec.{eqb}
 use lib.WfN.{lt-wf_rel}
 use lib.ListN.{length, get_or, length-map}
 use borrow.Author.Tests.{ltb-true, eqb-true, eq-eqb}
+use Rattle.basics.specs.Limits.{branches, longest_object}
 use Rattle.basics.specs.Sums.{range}
 use Rattle.basics.proofs.Bools.{and-true, and_makes}
 use Rattle.basics.proofs.Ranges.{sum_over_cong, between, in_range}
@@ -164,3 +165,11 @@ counted n = length-map (trees n) word ∙ trees-counted n
 -- "2n bytes"
 pub long : (n : ℕ) (x : Bytes) → is_dyck_word n x ≡ true → length x ≡ 2 * n
 long n x o = let d = dyck_cases n x o in rw (← d.spelled, word-length, d.sized)
+
+-- an object is the word of a tree
+pub spelled : (n : ℕ) (x : Bytes) → is_dyck_word n x ≡ true → (t : Tree) × (x ≡ word t)
+spelled n x o = (parse x, sym (dyck_cases n x o).spelled)
+
+-- and the table has room for its rows
+pub short : (n : ℕ) (x : Bytes) → n ≤ branches → is_dyck_word n x ≡ true → length x ≤ longest_object
+short n x h o = omega (arith, long n x o)

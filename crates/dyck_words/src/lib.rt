@@ -1,6 +1,6 @@
 // Kind 6: Dyck words with n of each, over lent byte slices. Called by `families`, which shows what each function requires. A word that isn't
 // empty is 1, its inside, 0, its rest (paper 01's row is a word, its branch a prime word, 1 inside 0). Nothing here needs counts: ranks,
-// which do, are in `dyck_ranks` and use the two readers that are passed on below.
+// which do, are in `dyck_ranks` and use the table of rows that is passed on below.
 #![tactic(auto)]
 
 ghost use Rattle.std.specs.Prelude.{◌≡◌, true, ◌*◌, ◌≤◌, length};
@@ -16,24 +16,19 @@ mod reading;
 mod stepping;
 
 use listings::Step;
-use reading::Read;
-pub use reading::{ROWS, inside_len, row_lengths};
+pub use reading::row_lengths;
 
 // Does the slice hold a Dyck word with n of each? The reader of a row has to come to the end.
+#[tactic(auto, using(crate::proofs::Testing::wrong_length, crate::proofs::Testing::row_tells))]
 pub fn is_object(n: u64, object: &[u8]) -> bool
     requires { n ≤ branches }
     ensures { result ≡ is_dyck_word n object.now }
 {
-    if object.len() as u64 != 2 * n {
-        return false;
-    }
-    let Read::To(end) = reading::row(object, 0) else {
-        return false;
-    };
-    end == object.len()
+    object.len() as u64 == 2 * n && reading::row(object, 0) == Some(object.len())
 }
 
 // The earliest: 1 0 1 0 ..
+#[tactic(auto, using(crate::proofs::Neighbours::first_word))]
 pub fn first(n: u64, object: &mut [u8])
     requires { length object.old ≡ 2 * n }
     ensures { First (dyck_words n) object.new }
@@ -42,6 +37,7 @@ pub fn first(n: u64, object: &mut [u8])
 }
 
 // The latest: 1 .. 1 0 .. 0.
+#[tactic(auto, using(crate::proofs::Neighbours::last_word))]
 pub fn last(n: u64, object: &mut [u8])
     requires { length object.old ≡ 2 * n }
     ensures { Last (dyck_words n) object.new }
