@@ -7,4 +7,5 @@ pub mod Places
 pub mod FirstLast
 pub mod InPlace
 pub mod Loops
+pub mod Gaps
 pub mod Neighbours
