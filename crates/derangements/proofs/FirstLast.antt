@@ -5,14 +5,12 @@ use mathlib.Core.Bool.{true, false}
 use mathlib.Core.List.{[], ◌∷◌, ◌++◌, flat_map}
 use Prim.Native.Nat.{ℕ, zero, suc, ◌+◌, ◌-◌, ◌*◌, ◌≤◌, ◌<◌}
 use native.Mathlib.Nat.{add-zero}
-use native.Mathlib.Numerals.{add-one}
 use native.Mathlib.Decide.{dec_lt}
 use native.Mathlib.Omega.{arith}
-use lib.ListN.{length, get_or, drop, set, length-append, length-set, drop_of_length-le, get_or-append}
+use lib.ListN.{length, get_or, set, length-append, get_or-append}
 use lib.Seq.{get_or-append-add, set-append_seam}
 use borrow.Author.Tests.{le-ltb}
 use Rattle.basics.specs.Sums.{range}
-use Rattle.basics.proofs.Lists.{drop-set}
 use Rattle.basics.proofs.Ranges.{length-range, range_snoc}
 use Rattle.listings.specs.Bytes.{Bytes}
 use Rattle.listings.specs.Directions.{Edge, latest, earliest}

@@ -62,6 +62,7 @@ fn add_pair(c: u8, object: &mut [u8])
 }
 
 // The key; what is left stands in front.
+#[tactic(auto, using(crate::proofs::InPlace::last_value))]
 pub fn take_apart(object: &mut [u8]) -> u8
     requires in_bounds { (2 ≤ length object.old) × (length object.old ≤ places) }
     requires object_value { is_derangement (length object.old) object.old ≡ true }

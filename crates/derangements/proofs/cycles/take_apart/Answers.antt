@@ -1,18 +1,7 @@
 -- c and n are a cycle of two and are removed, or n is found and c put in its place.
-use Rattle.std.proofs.Common.{length, arith}
-use Rattle.derangements.proofs.InPlace.{apart_pair, apart_cycle, last-stands, last_value}
+use Rattle.std.proofs.Common.{arith}
+use Rattle.derangements.proofs.InPlace.{apart_pair, apart_cycle, last-stands}
 use Rattle.derangements.proofs.cycles.take_apart.Goals as goal
-
-pub overflow_sub-c : goal.overflow_sub-c
-overflow_sub-c c = (last_value (length c.args.object.now) c.args.object.now (omega arith) c.requires.object_value).from
-
-pub bounds-object-c : goal.bounds-object-c
-bounds-object-c c = omega (arith, last_value (length c.args.object.now) c.args.object.now (omega arith) c.requires.object_value)
-
-pub drop_pair-requires-clause-le_c : goal.drop_pair-requires-clause-le_c
-drop_pair-requires-clause-le_c c =
-    let last = last_value (length c.args.object.now) c.args.object.now (omega arith) c.requires.object_value in
-    (last.from, omega (arith, last))
 
 pub returns-then-object-c : goal.returns-then-object-c
 returns-then-object-c c = apart_pair _ c.args.object.now _ (omega arith) c.requires.object_value c.if-object-c.true c.drop_pair.ensures

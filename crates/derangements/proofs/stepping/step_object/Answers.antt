@@ -1,9 +1,5 @@
--- `derangements::stepping::step_object` meets its contract: a neighbour is what the call says, and so is an edge.
--- Assumes nothing.
-use mathlib.Core.Path.{◌≡◌, ap, ◌∙◌}
-use mathlib.Core.Bool.{Bool}
-use Prim.Native.Nat.{ℕ}
-use borrow.Author.Rules.{rules}
+-- A neighbour is what the call says, and so is an edge.
+use Rattle.std.proofs.Common.{◌≡◌, Bool, ℕ, ap, ◌∙◌}
 use Rattle.listings.specs.Bytes.{Bytes}
 use Rattle.listings.specs.Calls.{END, Said, act}
 use Rattle.listings.specs.Directions.{step_call}
@@ -15,20 +11,11 @@ use Rattle.derangements.specs.Objects.{derangement_before}
 use Rattle.derangements.specs.Listing.{derangements}
 use Rattle.derangements.specs.Inner.Moves.{AfterStep}
 use Rattle.derangements.proofs.Theorem.{lists}
-use Rattle.derangements.proofs.stepping.step_object.Statement.{statement}
-use Rattle.derangements.proofs.stepping.step_object.Tie as tie
+use Rattle.derangements.proofs.stepping.step_object.Goals as goal
 
 said : (up : Bool) (n : ℕ) (x y : Bytes) (r : Step) → AfterStep up (derangements n) x r y → ◌≡◌ {A = Said} (step_as r, y) (act (step_call up) (derangement_before n) (derangements n) x)
 said up n x y Moved b = steps (lists n) b
 said up n x y End (e, h) = ap (λ z. (END, z)) e ∙ stops (lists n) h
 
-returns : tie.Need-returns
-returns c =
-    let a = c.args in
-    said a.up _ a.object.now _ c.step.result c.step.ensures
-
-pub step_object_spec : {M : Type 1} → statement M
-step_object_spec = tie.close (tie.spec
-    (λ c κs. search rules)
-    (λ c. search rules)
-    returns)
+pub returns : goal.returns
+returns c = said c.args.up _ c.args.object.now _ c.step.result c.step.ensures
