@@ -164,14 +164,20 @@ last_none (suc n) x none e = absurd (omega arith)
 pub last_of_three : (n : ℕ) (y : Bytes) → n ≡ 3 → y ≡ 3 ∷ 1 ∷ 2 ∷ [] → Last (derangements n) y
 last_of_three n y three e = rw (three, e) (edge_last last_three)
 
-pub last_behind : (n k : ℕ) (x y : Bytes) → k + 2 ≡ n → (n ≡ 3 → ⊥) → y ≡ n ∷ (n - 1) ∷ [] → Last (derangements k) x → Last (derangements n) (x ++ y)
-last_behind zero k x y size three e h = absurd (omega arith)
-last_behind (suc zero) k x y size three e h = absurd (omega arith)
-last_behind (suc (suc zero)) k x y size three e h =
+two_stored : (p : Bytes) (a b : ℕ) → length p ≡ 2 → set (set p 0 a) 1 b ≡ a ∷ b ∷ []
+two_stored [] a b e = absurd (omega arith)
+two_stored (v ∷ []) a b e = absurd (omega arith)
+two_stored (v ∷ w ∷ []) a b e = refl
+two_stored (v ∷ w ∷ u ∷ p) a b e = absurd (omega arith)
+
+pub last_behind : (n k : ℕ) (x p : Bytes) → k + 2 ≡ n → (n ≡ 3 → ⊥) → length p ≡ 2 → Last (derangements k) x → Last (derangements n) (x ++ set (set p 0 n) 1 (n - 1))
+last_behind zero k x p size three two h = absurd (omega arith)
+last_behind (suc zero) k x p size three two h = absurd (omega arith)
+last_behind (suc (suc zero)) k x p size three two h =
     let none : k ≡ 0 = omega arith in
-    rw (e, none_left x (subst (λ j. is_derangement j x ≡ true) none (edge_object k (latest h)))) (edge_last last-two)
-last_behind (suc (suc (suc zero))) k x y size three e h = absurd (three refl)
-last_behind (suc (suc (suc (suc m)))) k x y size three e h =
+    rw (two_stored p 2 1 two, none_left x (subst (λ j. is_derangement j x ≡ true) none (edge_object k (latest h)))) (edge_last last-two)
+last_behind (suc (suc (suc zero))) k x p size three two h = absurd (three refl)
+last_behind (suc (suc (suc (suc m)))) k x p size three two h =
     let some : k ≡ suc (suc m) = omega arith in
     let end : suc (suc (suc (suc m))) - 1 ≡ suc (suc (suc m)) = omega arith in
-    rw (e, end) (edge_last (last_more m x (subst (λ j. Edge true (derangements j) x) some (latest h))))
+    rw (end, two_stored p (suc (suc (suc (suc m)))) (suc (suc (suc m))) two) (edge_last (last_more m x (subst (λ j. Edge true (derangements j) x) some (latest h))))

@@ -1,5 +1,7 @@
 // A derangement in a slice taken apart, in place, into its key and the derangement left, which then stands in front; and put together again. With n
-// places and c the last number, the key is c where n is cut out of its cycle, and n - 1 + c where c and n make a cycle of two.
+// places and c the last number, the key is c where n is cut out of its cycle, and n - 1 + c where c and n make a cycle of two. It is a number, and no enum of
+// the two cases, since the listing goes by it: the key beside it is one more or less. The places are a plain slice, and each function asks for their bounds:
+// in a struct round the reference `object.old` and `object.new` would be `self.entry.bytes.now` and `self.exit.0.now`, and each would promise the length too.
 ghost use Rattle.std.specs.Prelude.{◌≡◌, true, ℕ, ◌-◌, ◌≤◌, ◌<◌, length, take, get_or};
 ghost use Rattle.basics.specs.Limits.{places};
 ghost use Rattle.derangements.specs.Cycles.{unpair};
@@ -23,7 +25,12 @@ fn place_of(number: u8, object: &[u8]) -> usize
     requires { (i : ℕ) × (i < length object.now) × (get_or object.now i 0 ≡ number) }
     ensures { (result < length object.now) × (get_or object.now result 0 ≡ number) }
 {
-    object.iter().position(|label| *label == number).unwrap()
+    // The number is there, so nothing tests for the end: this takes three instructions a byte, `position` or a `for` five, and a step up to half as many more.
+    let mut i = 0;
+    while object[i] != number {
+        i += 1;
+    }
+    i
 }
 
 // Removes c and n: the places behind c move down by one, and then the labels above c.
@@ -55,7 +62,7 @@ fn add_pair(c: u8, object: &mut [u8])
         *label = raised(c, *label);
     }
 
-    // Within a part, between places that are written here, the compiler makes one move of it; from place to place of the whole it took a third more.
+    // Within a part, from place 0 to 1, the compiler makes one move of it; between places of the whole it took up to a third more instructions.
     object[at..left + 1].copy_within(..left - at, 1);
     object[at] = (left + 2) as u8;
     object[left + 1] = c;

@@ -33,8 +33,9 @@ pub fn write_last(object: &mut [u8])
         3 => object.copy_from_slice(&[3, 1, 2]),
         _ => {
             let (others, pair) = object.split_at_mut(n - 2);
+            pair[0] = n as u8;
+            pair[1] = n as u8 - 1;
             write_last(others);
-            pair.copy_from_slice(&[n as u8, n as u8 - 1]);
         }
     }
 }

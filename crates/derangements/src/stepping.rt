@@ -1,4 +1,5 @@
 // A step to the next or the previous derangement: one function for both directions. What is left without the key moves first, and where it can't the key does.
+// `up` is a bool, as the direction is in what all kinds say of a step (`Beside`, `Edge` and `step_call` of `listings`).
 ghost use Rattle.std.specs.Prelude.{◌≡◌, true, ◌*◌, ◌≤◌, length, take, if◌then◌else◌};
 ghost use Rattle.basics.specs.Limits.{places};
 ghost use Rattle.listings.specs.Calls.{Said, act};
