@@ -1,21 +1,19 @@
 -- Where a derangement stands: behind those with a smaller key, and among those with its key where the derangement left stands among its own. And the
 -- derangement of a rank: its key by division, and what is left by the remainder. Assumes nothing.
-use mathlib.Core.Path.{◌≡◌, refl, sym, ◌∙◌, ap, subst₂}
+use mathlib.Core.Path.{◌≡◌, refl, sym, ◌∙◌, ap, subst, subst₂}
 use mathlib.Core.Bool.{true}
-use mathlib.Core.List.{[], ◌∷◌, ◌++◌}
+use mathlib.Core.List.{[], ◌∷◌}
 use Prim.Native.Nat.{ℕ, zero, suc, ◌+◌, ◌-◌, ◌*◌, ◌/◌, ◌%◌, ◌≤◌, ◌<◌, ◌^◌}
 use native.Mathlib.Nat.{mul-zero, mod-lt, div-lt_iff_lt-mul, div-add-mod'}
 use native.Mathlib.Decide.{dec_lt}
 use native.Mathlib.Omega.{arith}
-use lib.ListN.{length, take, drop}
-use lib.Seq.{length-take-le, length_front, take_at}
+use lib.ListN.{length, take}
+use lib.Seq.{length-take-le}
 use borrow.Author.Tests.{lt-ltb, le-ltb}
 use Rattle.basics.specs.Sums.{range, sum_over}
 use Rattle.basics.proofs.Ranges.{take_range}
 use Rattle.numbers.specs.Numbers.{derangements_of}
-use Rattle.numbers.proofs.Derangements.{derangement_one, derangement_rule, derangement_grows}
-use Rattle.counting.specs.Answers.{if_fits}
-use Rattle.counting.proofs.Answers.{if_small}
+use Rattle.numbers.proofs.Derangements.{derangement_zero, derangement_one, derangement_rule, derangement_grows}
 use Rattle.listings.specs.Bytes.{Bytes}
 use Rattle.listings.specs.Places.{At, count_before}
 use Rattle.listings.proofs.ChoicePlaces.{at_choice}
@@ -23,10 +21,11 @@ use Rattle.listings.proofs.PlaceRules.{at_below, at_member, at_range_from}
 use Rattle.listings.proofs.Ranks.{at_rank, rank_below}
 use Rattle.derangements.specs.Objects.{is_derangement, derangement_before}
 use Rattle.derangements.specs.Listing.{join, derangements}
-use Rattle.derangements.specs.Inner.Keys.{left_of, Keyed, TakenApart}
-use Rattle.derangements.proofs.Theorem.{left_size, left, left_is, left_in_cycle, left_in_pair, left-counted, over_cycles, over_pairs, lists, counted, long}
+use Rattle.derangements.specs.Inner.Keys.{left_of, TakenApart}
+use Rattle.derangements.proofs.Theorem.{left_size, left, left_is, left_in_cycle, left_in_pair, left-counted, over_cycles, over_pairs, lists, counted}
 use Rattle.derangements.proofs.Places.{left_of_lem}
-use Rattle.derangements.proofs.Neighbours.{left_below}
+use Rattle.derangements.proofs.Neighbours.{left_below, InFront, in_front}
+use Rattle.derangement_ranks.specs.declared.keys.LeftCounts.{LeftCounts}
 use Rattle.derangement_ranks.specs.Inner.Ranks.{having, earlier_by, Placed}
 
 -- the order of the keys: those below n come first, and then those from n on
@@ -132,7 +131,41 @@ pub record Numbers (n a b : ℕ) : Type 0 where
   fewer : (key : ℕ) → derangements_of (left_of n key) ≤ derangements_of n
   stands : (key r : ℕ) {x : Bytes} → 1 ≤ key → key ≤ 2 * (n - 1) → At (derangements (left_of n key)) x r → At (derangements n) (join n key x) (earlier_by n key a b + r)
 
+numbers : (n : ℕ) → 2 ≤ n → Numbers n (derangements_of (n - 1)) (derangements_of (n - 2))
+numbers zero two = absurd (omega arith)
+numbers (suc zero) two = absurd (omega arith)
+numbers (suc (suc m)) two =
+    let fewer : suc m ≡ suc (suc m) - 1 = omega arith in
+    let fewest : m ≡ suc (suc m) - 2 = omega arith in
+    subst₂ (λ k l. Numbers (suc (suc m)) (derangements_of k) (derangements_of l)) fewer fewest record {
+      two = two;
+      all = rw (← fewer) (sym (derangement_rule m));
+      with_key = having-is m;
+      fewer = left_fewer m;
+      stands = at_key m;
+    }
+
+pub counted_left : (c : LeftCounts) → Numbers c.n c.longer c.shorter
+counted_left c = subst₂ (Numbers c.n) (sym c.longer_is) (sym c.shorter_is) (numbers c.n (omega (arith, c.bounds)))
+
+-- the place of a rank that isn't below those with a key below n
+pub in_pair : (c : LeftCounts) (r : ℕ) → (c.n - 1) * c.longer ≤ r → r < derangements_of c.n → (0 < c.shorter) × Placed c.n r c.longer c.shorter (c.n + (r - (c.n - 1) * c.longer) / c.shorter) ((r - (c.n - 1) * c.longer) % c.shorter)
+in_pair c r low high =
+    let below : r < (c.n - 1) * c.longer + (c.n - 1) * c.shorter = omega (arith, (counted_left c).all) in
+    (some_where_below (c.n - 1) c.shorter (r - (c.n - 1) * c.longer) (omega arith), placed_pair c.n r c.longer c.shorter low below)
+
+-- each number is no more than that of n places
+pub both_fit : (n : ℕ) → 2 ≤ n → derangements_of n < 2 ^ 64 → (derangements_of (n - 1) < 2 ^ 64) × (derangements_of (n - 2) < 2 ^ 64)
+both_fit zero two fits = absurd (omega arith)
+both_fit (suc zero) two fits = absurd (omega arith)
+both_fit (suc (suc m)) two fits =
+    let grows = derangement_grows m in
+    let fewer : suc (suc m) - 1 ≡ suc m = omega arith in
+    let fewest : suc (suc m) - 2 ≡ m = omega arith in
+    (rw fewer (omega arith), rw fewest (omega arith))
+
 -- of one place there is none
+
 pub two_where_some : (n r : ℕ) → (n ≡ 0 → ⊥) → r < derangements_of n → 2 ≤ n
 two_where_some zero r some h = absurd (some refl)
 two_where_some (suc zero) r some h = absurd (omega (arith, derangement_one))
@@ -141,82 +174,66 @@ two_where_some (suc (suc m)) r some h = omega arith
 pub two_where_object : (n : ℕ) (x : Bytes) → (n ≡ 0 → ⊥) → is_derangement n x ≡ true → 2 ≤ n
 two_where_object n x some o = two_where_some n (count_before (derangement_before n) x (derangements n)) some (omega (arith, rank_below (lists n) x o, counted n))
 
-pub numbers : (n : ℕ) {a b : ℕ} → 2 ≤ n → derangements_of n < 2 ^ 64 → a ≡ if_fits (derangements_of (n - 1)) → b ≡ if_fits (derangements_of (n - 2)) → Numbers n a b
-numbers zero two fits p q = absurd (omega arith)
-numbers (suc zero) two fits p q = absurd (omega arith)
-numbers (suc (suc m)) {a} {b} two fits p q =
-    let grows = derangement_grows m in
-    let fewer : suc (suc m) - 1 ≡ suc m = omega arith in
-    let fewest : suc (suc m) - 2 ≡ m = omega arith in
-    let longer_is : a ≡ derangements_of (suc m) = p ∙ ap (λ k. if_fits (derangements_of k)) fewer ∙ if_small (omega arith) in
-    let shorter-is : b ≡ derangements_of m = q ∙ ap (λ k. if_fits (derangements_of k)) fewest ∙ if_small (omega arith) in
-    subst₂ (Numbers (suc (suc m))) (sym longer_is) (sym shorter-is) record {
-      two = two;
-      all = rw fewer (sym (derangement_rule m));
-      with_key = having-is m;
-      fewer = left_fewer m;
-      stands = at_key m;
-    }
+-- x taken apart into a key and z, with l places left in front
 
--- x taken apart into a key and y, the derangement left, of l places: `before` have a smaller key
-pub record Rest (n before l : ℕ) (x y : Bytes) : Type 0 where
-  pub within : l < n
-  pub size : length y ≡ l
-  pub object : is_derangement (length y) y ≡ true
-  pub fewer : derangements_of (length y) ≤ derangements_of n
-  pub below : before < derangements_of n
-  pub stands : (r : ℕ) → At (derangements (length y)) y r → At (derangements n) x (before + r)
+pub record Rest (n a b key l : ℕ) (x z : Bytes) : Type 0 where
+  pub within : l ≤ length z
+  pub size : l ≡ length (take l z)
+  pub less : length (take l z) < length x
+  pub object : is_derangement (length (take l z)) (take l z) ≡ true
+  pub fewer : derangements_of (length (take l z)) ≤ derangements_of n
+  pub below : earlier_by n key a b < derangements_of n
+  pub under : (r : ℕ) → At (derangements (length (take l z))) (take l z) r → earlier_by n key a b + r < derangements_of n
+  pub stands : (r : ℕ) → At (derangements (length (take l z))) (take l z) r → At (derangements (length x)) x (earlier_by n key a b + r)
 
-pub taken : {n a b key l : ℕ} {x z : Bytes} → Numbers n a b → TakenApart n x key z → l ≡ left_of n key → Rest n (earlier_by n key a b) l x (take l z)
-taken {n} {a} {b} {key} {l} {x} {z} d t e =
+taken : {n a b key l : ℕ} {x z : Bytes} → Numbers n a b → n ≡ length x → length z ≡ length x → TakenApart n x key z → l ≡ left_of n key → Rest n a b key l x z
+taken {n} {a} {b} {key} {l} {x} {z} d long_x long_z t e =
+    let below : l < n = rw e (left_below n key d.two) in
+    let size : length (take l z) ≡ l = length-take-le l z (omega arith) in
     let object : is_derangement l (take l z) ≡ true = rw e t.keyed.object in
-    let size = long l (take l z) object in
     let stands : (r : ℕ) → At (derangements l) (take l z) r → At (derangements n) x (earlier_by n key a b + r) = λ r h. rw (← t.whole) (d.stands key r t.keyed.from t.keyed.upto (rw e at h)) in
+    let under : (r : ℕ) → At (derangements l) (take l z) r → earlier_by n key a b + r < derangements_of n = λ r h. omega (arith, at_below (derangements n) _ (stands r h), counted n) in
     record {
-      within = rw e (left_below n key d.two);
-      size = size;
+      within = omega arith;
+      size = sym size;
+      less = omega arith;
       object = rw size object;
       fewer = rw (size, e) (d.fewer key);
-      below = omega (arith, at_below (derangements n) _ (stands _ (at_rank (lists l) (take l z) object)), counted n);
-      stands = rw size stands;
+      below = omega (arith, under _ (at_rank (lists l) (take l z) object));
+      under = rw size under;
+      stands = rw (size, ← long_x) stands;
     }
 
--- y, a derangement left with the key, written in front of the other places of x
-pub record Written (rank key l : ℕ) (x y : Bytes) : Type 0 where
-  pub size : length (y ++ drop l x) ≡ length x
-  pub keyed : Keyed (length (y ++ drop l x)) key (y ++ drop l x)
-  pub joined : {z : Bytes} → z ≡ join (length (y ++ drop l x)) key (take (left_of (length (y ++ drop l x)) key) (y ++ drop l x)) → At (derangements (length x)) z rank
-
-put : {a b rank key s l : ℕ} (x y : Bytes) → Numbers (length x) a b → Placed (length x) rank a b key s → l ≡ left_of (length x) key → length (take l x) ≡ l → At (derangements l) y s → Written rank key l x y
-put {key} {s} {l} x y d p e size h =
-    let object : is_derangement l y ≡ true = (lists l).only y (at_member (derangements l) s h) in
-    let same : length (y ++ drop l x) ≡ length x = length_front x y l (long l y object ∙ sym size) in
-    let first : take (left_of (length x) key) (y ++ drop l x) ≡ y = rw (← e) (take_at y (drop l x) l (long l y object)) in
-    record {
-      size = same;
-      keyed = rw same record { from = p.from; upto = p.upto; object = rw (first, ← e) object };
-      joined = λ f. rw (f, same, first, ← p.whole) (d.stands key s p.from p.upto (rw e at h));
-    }
+pub rest : {key l : ℕ} {x z : Bytes} (c : LeftCounts) → c.n ≡ length x → length z ≡ length x → TakenApart (length x) x key z → l ≡ left_of (length x) key → Rest c.n c.longer c.shorter key l x z
+rest c e long_z t left = taken (counted_left c) e long_z (rw e t) (rw e left)
 
 -- the derangement of a rank has the key, and the one left has the rank s and l places
+
 pub record Front (rank key s l : ℕ) (x : Bytes) : Type 0 where
-  pub within : l < length x
-  pub size : length (take l x) ≡ l
+  pub within : l ≤ length x
+  pub size : l ≡ length (take l x)
+  pub less : length (take l x) < length x
   pub fewer : derangements_of (length (take l x)) ≤ derangements_of (length x)
   pub below : s < derangements_of (length (take l x))
-  pub written : (y : Bytes) → At (derangements (length (take l x))) y s → Written rank key l x y
+  pub written : (y : Bytes) → At (derangements (length (take l x))) y s → InFront (length x) key l x y
+  pub stands : (y : Bytes) → At (derangements (length (take l x))) y s → At (derangements (length x)) (join (length x) key y) rank
 
-pub front : {a b rank key s l : ℕ} (x : Bytes) → Numbers (length x) a b → Placed (length x) rank a b key s → l ≡ left_of (length x) key → Front rank key s l x
-front {a} {b} {rank} {key} {s} {l} x d p e =
-    let within : l < length x = rw e (left_below (length x) key d.two) in
-    let size = length-take-le l x (omega arith) in
+placed : {a b rank key s l : ℕ} (x : Bytes) → Numbers (length x) a b → Placed (length x) rank a b key s → l ≡ left_of (length x) key → Front rank key s l x
+placed {a} {b} {rank} {key} {s} {l} x d p e =
+    let below : l < length x = rw e (left_below (length x) key d.two) in
+    let size : length (take l x) ≡ l = length-take-le l x (omega arith) in
     record {
-      within = within;
-      size = size;
+      within = omega arith;
+      size = sym size;
+      less = omega arith;
       fewer = rw (size, e) (d.fewer key);
       below = rw (size, e) (omega (arith, p.within, d.with_key key));
-      written = λ y h. put x y d p e size (rw size at h);
+      written = λ y h. in_front x y refl (omega arith) e p.from p.upto ((lists l).only y (at_member (derangements l) s (rw size at h)));
+      stands = λ y h. rw (← p.whole) (d.stands key s p.from p.upto (rw (size, e) at h));
     }
+
+pub front : {rank key s l : ℕ} (x : Bytes) (c : LeftCounts) → c.n ≡ length x → Placed c.n rank c.longer c.shorter key s → l ≡ left_of (length x) key → Front rank key s l x
+front x c e p is = placed x (subst (λ n. Numbers n c.longer c.shorter) e (counted_left c)) (rw e at p) is
 
 -- no place
 
@@ -224,3 +241,8 @@ pub empty_at : (x : Bytes) → length x ≡ 0 → At (derangements (length x)) x
 unfolding derangements
 empty_at [] e = refl
 empty_at (b ∷ x) e = absurd (omega arith)
+
+pub only_empty : (x : Bytes) (r : ℕ) → length x ≡ 0 → r < derangements_of (length x) → At (derangements (length x)) x r
+only_empty x r e h =
+    let zeroth : r ≡ 0 = omega (arith, ap derangements_of e, derangement_zero) in
+    rw zeroth (empty_at x e)

@@ -11,9 +11,8 @@ ghost use Rattle.derangements.specs.Listing.{derangements};
 
 mod keys;
 
-use counting::derangement_that_fits;
 use derangements::cycles::{left_of, put_together, take_apart};
-use keys::{earlier, place_at};
+use keys::LeftCounts;
 use listings::copied;
 
 // Through the rank of the derangement left. The bytes are taken apart on the way, so they are a copy.
@@ -27,12 +26,10 @@ fn rank_of(object: &mut [u8]) -> u64
     if n == 0 {
         return 0;
     }
-    let longer = derangement_that_fits(n as u64 - 1);
-    let shorter = derangement_that_fits(n as u64 - 2);
+    let counts = LeftCounts::of(n as u64);
     let key = take_apart(object);
     let left = left_of(n, key);
-    let before = earlier(n as u64, key as u64, longer, shorter);
-    before + rank_of(&mut object[..left])
+    counts.earlier(key) + rank_of(&mut object[..left])
 }
 
 // How many derangements come before it.
@@ -42,6 +39,7 @@ pub fn rank(object: &[u8]) -> u64
     requires object_bound { derangements_of (length object.now) < 2 ^ 64 }
     ensures { result ≡ count_before (derangement_before (length object.now)) object.now (derangements (length object.now)) }
 {
+    // In an array with room for any object, and no Vec: the calls take no memory.
     let n = object.len();
     let mut bytes = copied(object);
     rank_of(&mut bytes[..n])
@@ -58,11 +56,8 @@ pub fn unrank(rank: u64, object: &mut [u8])
     if n == 0 {
         return;
     }
-    let longer = derangement_that_fits(n as u64 - 1);
-    let shorter = derangement_that_fits(n as u64 - 2);
-    let place = place_at(rank, n as u64, longer, shorter);
-    let key = place.0 as u8;
-    let left = left_of(n, key);
-    unrank(place.1, &mut object[..left]);
-    put_together(key, object);
+    let place = LeftCounts::of(n as u64).place_at(rank);
+    let left = left_of(n, place.key);
+    unrank(place.rank, &mut object[..left]);
+    put_together(place.key, object);
 }

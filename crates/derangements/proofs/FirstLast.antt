@@ -5,20 +5,19 @@ use mathlib.Core.Bool.{true, false}
 use mathlib.Core.List.{[], ◌∷◌, ◌++◌, flat_map}
 use Prim.Native.Nat.{ℕ, zero, suc, ◌+◌, ◌-◌, ◌*◌, ◌≤◌, ◌<◌}
 use native.Mathlib.Nat.{add-zero}
-use native.Mathlib.Numerals.{add-one}
 use native.Mathlib.Decide.{dec_lt}
 use native.Mathlib.Omega.{arith}
-use lib.ListN.{length, get_or, drop, set, length-append, length-set, drop_of_length-le, get_or-append}
-use lib.Seq.{get_or-append-add, set_comm}
+use lib.ListN.{length, get_or, set, length-append, get_or-append}
+use lib.Seq.{get_or-append-add, set-append_seam}
 use borrow.Author.Tests.{le-ltb}
 use Rattle.basics.specs.Sums.{range}
-use Rattle.basics.proofs.Lists.{drop-set}
-use Rattle.basics.proofs.Ranges.{length-range}
+use Rattle.basics.proofs.Ranges.{length-range, range_snoc}
 use Rattle.listings.specs.Bytes.{Bytes}
 use Rattle.listings.specs.Directions.{Edge, latest, earliest}
 use Rattle.listings.specs.Places.{First, Last}
 use Rattle.listings.proofs.Ranks.{edge_first, edge_last}
 use Rattle.derangements.specs.Cycles.{image, images, lowered, raised}
+use Rattle.derangements.specs.Objects.{is_derangement}
 use Rattle.derangements.specs.Listing.{splice, pair, join, derangements}
 use Rattle.derangements.specs.Inner.Keys.{high_key, low_key}
 use Rattle.derangements.specs.Inner.Moves.{goes}
@@ -145,45 +144,40 @@ last_three = latest record { place = 1; here = refl; final = refl }
 
 -- as the code writes them
 
-pub first_empty : (x : Bytes) → length x ≡ 0 → First (derangements (length x)) x
-first_empty [] e = edge_first (empty_edge false)
-first_empty (b ∷ x) e = absurd (omega arith)
+pub first_none : (n : ℕ) (y : Bytes) → n ≡ 0 → y ≡ range 2 n → First (derangements n) y
+unfolding range
+first_none zero y none e = rw e (edge_first (empty_edge false))
+first_none (suc n) y none e = absurd (omega arith)
 
-pub last_empty : (x : Bytes) → length x ≡ 0 → Last (derangements (length x)) x
-last_empty [] e = edge_last (empty_edge true)
-last_empty (b ∷ x) e = absurd (omega arith)
+pub first_some : (n end : ℕ) (y : Bytes) → end + 1 ≡ n → (n ≡ 1 → ⊥) → y ≡ range 2 n → First (derangements n) (set y end 1)
+first_some zero end y more one e = absurd (omega arith)
+first_some (suc zero) end y more one e = absurd (one refl)
+first_some (suc (suc m)) end y more one e =
+    let at : end ≡ length (range 2 (suc m)) = omega (arith, length-range 2 (suc m)) in
+    rw (e, at, range_snoc 2 (suc m), set-append_seam) (edge_first (first_cycle m))
 
-pub first_written : (n : ℕ) (x y : Bytes) → 2 ≤ n → length x ≡ n → y ≡ range 2 (n - 1) ++ (1 ∷ drop (suc (n - 1)) x) → Edge false (derangements n) y
-first_written zero x y two long e = absurd (omega arith)
-first_written (suc zero) x y two long e = absurd (omega arith)
-first_written (suc (suc m)) x y two long e =
-    let size : suc (suc m) - 1 ≡ suc m = omega arith in
-    rw (e, size, drop_of_length-le x {i = suc (suc m)} (omega arith)) (first_cycle m)
+pub last_none : (n : ℕ) (x : Bytes) → n ≡ 0 → length x ≡ n → Last (derangements n) x
+last_none zero [] none e = edge_last (empty_edge true)
+last_none zero (b ∷ x) none e = absurd (omega arith)
+last_none (suc n) x none e = absurd (omega arith)
 
-three_written : (x : Bytes) → length x ≡ 3 → set (set (set x 0 3) 1 1) 2 2 ≡ 3 ∷ 1 ∷ 2 ∷ []
-three_written [] e = absurd (omega arith)
-three_written (a ∷ []) e = absurd (omega arith)
-three_written (a ∷ b ∷ []) e = absurd (omega arith)
-three_written (a ∷ b ∷ c ∷ []) e = refl
-three_written (a ∷ b ∷ c ∷ d ∷ x) e = absurd (omega arith)
+pub last_of_three : (n : ℕ) (y : Bytes) → n ≡ 3 → y ≡ 3 ∷ 1 ∷ 2 ∷ [] → Last (derangements n) y
+last_of_three n y three e = rw (three, e) (edge_last last_three)
 
-pub last_three_written : (x : Bytes) → length x ≡ 3 → Edge true (derangements (length x)) (set (set (set x 0 3) 1 1) 2 2)
-last_three_written x e = rw (e, three_written x e) last_three
+two_stored : (p : Bytes) (a b : ℕ) → length p ≡ 2 → set (set p 0 a) 1 b ≡ a ∷ b ∷ []
+two_stored [] a b e = absurd (omega arith)
+two_stored (v ∷ []) a b e = absurd (omega arith)
+two_stored (v ∷ w ∷ []) a b e = refl
+two_stored (v ∷ w ∷ u ∷ p) a b e = absurd (omega arith)
 
--- behind the first `at` places
-pair_written : (at n c : ℕ) (x : Bytes) → length x ≡ suc (suc at) → drop at (set (set x at n) (at + 1) c) ≡ n ∷ c ∷ []
-pair_written at n c x long =
-    ap (λ k. drop at (set (set x at n) k c)) (add-one at) ∙ ap (drop at) (set_comm x at (suc at) n c (λ e. omega (arith, e)))
-    ∙ drop-set (set x (suc at) c) at n (rw length-set (omega (arith, long)))
-    ∙ ap (λ l. n ∷ l) (drop-set x (suc at) c (omega (arith, long)) ∙ ap (λ l. c ∷ l) (drop_of_length-le x {i = suc (suc at)} (omega (arith, long))))
-
-pub last_written : (n : ℕ) (x part : Bytes) → 2 ≤ n → (n ≡ 3 → ⊥) → length x ≡ n → Edge true (derangements (n - 2)) part → Edge true (derangements n) (part ++ drop (n - 2) (set (set x (n - 2) n) (n - 2 + 1) (n - 2 + 1)))
-last_written zero x part two three long h = absurd (omega arith)
-last_written (suc zero) x part two three long h = absurd (omega arith)
-last_written (suc (suc zero)) x part two three long h =
-    rw (pair_written 0 2 1 x long, none_left part (edge_object 0 h)) last-two
-last_written (suc (suc (suc zero))) x part two three long h = absurd (three refl)
-last_written (suc (suc (suc (suc m)))) x part two three long h =
-    let size : suc (suc (suc (suc m))) - 2 ≡ suc (suc m) = omega arith in
-    let next : suc (suc m) + 1 ≡ suc (suc (suc m)) = omega arith in
-    rw (size, pair_written (suc (suc m)) (suc (suc (suc (suc m)))) (suc (suc m) + 1) x long, next) (last_more m part (subst (λ k. Edge true (derangements k) part) size h))
+pub last_behind : (n k : ℕ) (x p : Bytes) → k + 2 ≡ n → (n ≡ 3 → ⊥) → length p ≡ 2 → Last (derangements k) x → Last (derangements n) (x ++ set (set p 0 n) 1 (n - 1))
+last_behind zero k x p size three two h = absurd (omega arith)
+last_behind (suc zero) k x p size three two h = absurd (omega arith)
+last_behind (suc (suc zero)) k x p size three two h =
+    let none : k ≡ 0 = omega arith in
+    rw (two_stored p 2 1 two, none_left x (subst (λ j. is_derangement j x ≡ true) none (edge_object k (latest h)))) (edge_last last-two)
+last_behind (suc (suc (suc zero))) k x p size three two h = absurd (three refl)
+last_behind (suc (suc (suc (suc m)))) k x p size three two h =
+    let some : k ≡ suc (suc m) = omega arith in
+    let end : suc (suc (suc (suc m))) - 1 ≡ suc (suc (suc m)) = omega arith in
+    rw (end, two_stored p (suc (suc (suc (suc m)))) (suc (suc (suc m))) two) (edge_last (last_more m x (subst (λ j. Edge true (derangements j) x) some (latest h))))

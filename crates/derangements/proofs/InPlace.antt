@@ -155,19 +155,28 @@ apart_pair (suc (suc m)) x z two o e left =
     let end : suc m ≡ suc (suc m) - 1 = omega arith in
     subst (λ k. TakenApart (suc (suc m)) x (k + image x (suc (suc m))) z) end (pair_apart m x z o e (ap (λ k. take k z) (sym size) ∙ left))
 
-pub apart_cycle : (n : ℕ) (x : Bytes) (at : ℕ) → 2 ≤ n → is_derangement n x ≡ true → (get_or x (get_or x (n - 1) 0 - 1) 0 ≡ n → ⊥) → at < n - 1 → get_or x at 0 ≡ n → TakenApart n x (get_or x (n - 1) 0) (set x at (get_or x (n - 1) 0))
-apart_cycle zero x at two o far inside here = absurd (omega arith)
-apart_cycle (suc zero) x at two o far inside here = absurd (omega arith)
-apart_cycle (suc (suc m)) x at two o far inside here = cycle_apart m x at o far (omega arith) here
+-- the search is handed the places in front of the last
+found_in_front : (n v at : ℕ) (z : Bytes) → 2 ≤ n → length z ≡ n → (at < length (take (n - 1) z)) × (get_or (take (n - 1) z) at 0 ≡ v) → (at < n - 1) × (get_or z at 0 ≡ v)
+found_in_front n v at z two long (h, e) =
+    let inside : at < n - 1 = omega (arith, h, length-take-le (n - 1) z (omega arith)) in
+    (inside, sym (get_or-take (n - 1) z at 0 inside) ∙ e)
 
-pub put_cycle : (n : ℕ) (z : Bytes) (key at : ℕ) → 2 ≤ n → length z ≡ n → Keyed n key z → key ≤ n - 1 → at < n - 1 → get_or z at 0 ≡ key → set (set z at n) (n - 1) key ≡ join n key (take (left_of n key) z)
-put_cycle zero z key at two long k low inside here = absurd (omega arith)
-put_cycle (suc zero) z key at two long k low inside here = absurd (omega arith)
-put_cycle (suc (suc m)) z key at two long k low inside here =
+pub apart_cycle : (n : ℕ) (x : Bytes) (at : ℕ) → 2 ≤ n → is_derangement n x ≡ true → (get_or x (get_or x (n - 1) 0 - 1) 0 ≡ n → ⊥) → (at < length (take (n - 1) x)) × (get_or (take (n - 1) x) at 0 ≡ n) → TakenApart n x (get_or x (n - 1) 0) (set x at (get_or x (n - 1) 0))
+apart_cycle zero x at two o far found = absurd (omega arith)
+apart_cycle (suc zero) x at two o far found = absurd (omega arith)
+apart_cycle (suc (suc m)) x at two o far found =
+    let (inside, here) = found_in_front (suc (suc m)) (suc (suc m)) at x two (deranged (suc (suc m)) x o).long found in
+    cycle_apart m x at o far (omega (arith, inside)) here
+
+pub put_cycle : (n : ℕ) (z : Bytes) (key at : ℕ) → 2 ≤ n → length z ≡ n → Keyed n key z → key < n → (at < length (take (n - 1) z)) × (get_or (take (n - 1) z) at 0 ≡ key) → set (set z at n) (n - 1) key ≡ join n key (take (left_of n key) z)
+put_cycle zero z key at two long k low found = absurd (omega arith)
+put_cycle (suc zero) z key at two long k low found = absurd (omega arith)
+put_cycle (suc (suc m)) z key at two long k low found =
+    let (inside, here) = found_in_front (suc (suc m)) key at z two long found in
     let end : suc (suc m) - 1 ≡ suc m = omega arith in
-    ap (λ e. set (set z at (suc (suc m))) e key) end ∙ cycle_put m z key at long k (omega arith) (omega arith) here
+    ap (λ e. set (set z at (suc (suc m))) e key) end ∙ cycle_put m z key at long k (omega arith) (omega (arith, inside)) here
 
-pub put-pair : (n : ℕ) (z y : Bytes) (key : ℕ) → 2 ≤ n → n - 1 < key → y ≡ pair n (key - (n - 1)) (take (n - 2) z) → y ≡ join n key (take (left_of n key) z)
+pub put-pair : (n : ℕ) (z y : Bytes) (key : ℕ) → 2 ≤ n → n ≤ key → y ≡ pair n (key - (n - 1)) (take (n - 2) z) → y ≡ join n key (take (left_of n key) z)
 put-pair zero z y key two h e = absurd (omega arith)
 put-pair (suc zero) z y key two h e = absurd (omega arith)
 put-pair (suc (suc m)) z y key two h e =
@@ -175,7 +184,7 @@ put-pair (suc (suc m)) z y key two h e =
     let size : suc (suc m) - 2 ≡ m = omega arith in
     pair_put m z y key (omega arith) (e ∙ ap₂ (λ k l. pair (suc (suc m)) k (take l z)) c size)
 
-pub front_is : (n : ℕ) (z : Bytes) (key : ℕ) → 2 ≤ n → n - 1 < key → Keyed n key z → is_derangement (n - 2) (take (n - 2) z) ≡ true
+pub front_is : (n : ℕ) (z : Bytes) (key : ℕ) → 2 ≤ n → n ≤ key → Keyed n key z → is_derangement (n - 2) (take (n - 2) z) ≡ true
 front_is zero z key two h k = absurd (omega arith)
 front_is (suc zero) z key two h k = absurd (omega arith)
 front_is (suc (suc m)) z key two h k = let size : m ≡ suc (suc m) - 2 = omega arith in subst (λ j. is_derangement j (take j z) ≡ true) size (front_object m z key (omega arith) k)
@@ -192,7 +201,7 @@ last-stands zero x two o = absurd (omega arith)
 last-stands (suc zero) x two o = absurd (omega arith)
 last-stands (suc (suc m)) x two o = let (i, h, e) = n_stands m x o in stands_in_front (suc (suc m)) (suc (suc m)) x (deranged (suc (suc m)) x o).long (i, omega arith, e)
 
-pub key_in_front : (n : ℕ) (z : Bytes) (key : ℕ) → 2 ≤ n → length z ≡ n → key ≤ n - 1 → Keyed n key z → (i : ℕ) × (i < length (take (n - 1) z)) × (get_or (take (n - 1) z) i 0 ≡ key)
+pub key_in_front : (n : ℕ) (z : Bytes) (key : ℕ) → 2 ≤ n → length z ≡ n → key < n → Keyed n key z → (i : ℕ) × (i < length (take (n - 1) z)) × (get_or (take (n - 1) z) i 0 ≡ key)
 key_in_front zero z key two long h k = absurd (omega arith)
 key_in_front (suc zero) z key two long h k = absurd (omega arith)
 key_in_front (suc (suc m)) z key two long h k = let (i, l, e) = key_stands m z key (omega arith) k in stands_in_front (suc (suc m)) key z long (i, omega arith, e)

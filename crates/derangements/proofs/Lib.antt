@@ -6,5 +6,5 @@ pub mod Laws
 pub mod Places
 pub mod FirstLast
 pub mod InPlace
-pub mod Loops
+pub mod Gaps
 pub mod Neighbours

@@ -6,9 +6,9 @@ use mathlib.Core.List.{List, [], ◌∷◌, flat_map}
 use Prim.Native.Nat.{ℕ, zero, suc, ◌+◌, ◌-◌, ◌*◌, ◌≤◌, ◌<◌}
 use native.Mathlib.Decide.{dec_lt}
 use native.Mathlib.Omega.{arith}
-use lib.Dec.{ltb}
+use lib.Dec.{ltb, eqb}
 use lib.ListN.{length}
-use borrow.Author.Tests.{ltb-true, ltb-false, ne_eqb}
+use borrow.Author.Tests.{eqb-true, ltb-true, ltb-false, ne_eqb}
 use Rattle.basics.specs.Sums.{range}
 use Rattle.basics.proofs.Ranges.{in_range}
 use Rattle.listings.specs.Bytes.{Bytes}
@@ -128,6 +128,6 @@ empty_edge true = latest record { place = 0; here = refl; final = refl }
 empty_edge false = earliest refl
 
 -- of no place, a step stays
-pub stays_empty : (up : Bool) (x : Bytes) → length x ≡ 0 → (x ≡ x) × Edge up (derangements (length x)) x
+pub stays_empty : (up : Bool) (x : Bytes) → true ≡ eqb (length x) 0 → (x ≡ x) × Edge up (derangements (length x)) x
 stays_empty up [] e = (refl, empty_edge up)
-stays_empty up (b ∷ x) e = absurd (omega arith)
+stays_empty up (b ∷ x) e = absurd (omega (arith, eqb-true (length (b ∷ x)) 0 (sym e)))

@@ -172,8 +172,8 @@ none_left (b ∷ x) o = absurd (omega (arith, long 0 (b ∷ x) o))
 pub one_place : (x : Bytes) → is_derangement 1 x ≡ true → ⊥
 one_place x o = let d = deranged 1 x o in let v = d.by.values 1 (omega arith) in d.by.moves 1 (omega arith) (omega (arith, v))
 
-pub two-places : (n : ℕ) (x : Bytes) → is_derangement n x ≡ true → (n ≡ 0 → ⊥) → 2 ≤ n
-two-places zero x o some = absurd (some refl)
+pub two-places : (n : ℕ) (x : Bytes) → is_derangement n x ≡ true → false ≡ eqb n 0 → 2 ≤ n
+two-places zero x o some = absurd (false≢true some)
 two-places (suc zero) x o some = absurd (one_place x o)
 two-places (suc (suc m)) x o some = omega arith
 

@@ -8,39 +8,36 @@ ghost use Rattle.derangements.specs.Listing.{derangements};
 use listings::fill_up;
 
 // The earliest: each place holds the next one's number, and the last 1.
-fn write_first(object: &mut [u8])
+#[tactic(auto, using(crate::proofs::FirstLast::first_none, crate::proofs::FirstLast::first_some))]
+pub fn write_first(object: &mut [u8])
     requires object_len_bound { length object.old ≤ places }
     requires fact { length object.old ≡ 1 → ⊥ }
     ensures { First (derangements (length object.old)) object.new }
 {
-    if object.len() == 0 {
-        return;
+    fill_up(object, 2);
+    if let Some(end) = object.len().checked_sub(1) {
+        object[end] = 1;
     }
-    let end = object.len() - 1;
-    object[end] = 1;
-    fill_up(&mut object[..end], 2);
 }
 
 // The latest: the last two places hold each other's numbers, behind the latest of the others.
-fn write_last(object: &mut [u8])
+#[tactic(auto, using(crate::proofs::FirstLast::last_none, crate::proofs::FirstLast::last_of_three, crate::proofs::FirstLast::last_behind))]
+pub fn write_last(object: &mut [u8])
     requires object_len_bound { length object.old ≤ places }
     requires fact { length object.old ≡ 1 → ⊥ }
     ensures { Last (derangements (length object.old)) object.new }
 {
     let n = object.len();
-    if n == 0 {
-        return;
+    match n {
+        0 => {}
+        3 => object.copy_from_slice(&[3, 1, 2]),
+        _ => {
+            let (others, pair) = object.split_at_mut(n - 2);
+            pair[0] = n as u8;
+            pair[1] = n as u8 - 1;
+            write_last(others);
+        }
     }
-    if n == 3 {
-        object[0] = 3;
-        object[1] = 1;
-        object[2] = 2;
-        return;
-    }
-    let at = n - 2;
-    object[at] = n as u8;
-    object[at + 1] = (at + 1) as u8;
-    write_last(&mut object[..at]);
 }
 
 // The latest, or, going back, the earliest.
@@ -51,7 +48,7 @@ pub fn write_end(up: bool, object: &mut [u8])
 {
     if up {
         write_last(object);
-        return;
+    } else {
+        write_first(object);
     }
-    write_first(object);
 }

@@ -19,28 +19,25 @@ use anagrams::permutations;
 use listings::Step;
 
 // Does a number stand at its own place?
+#[tactic(auto, using(crate::proofs::Images::fixed_here, crate::proofs::Images::unfixed_here, crate::proofs::Images::none_fixed))]
 fn has_fixed_point(object: &[u8]) -> bool
     ensures { result ≡ has_fixed_point 1 object.now }
 {
-    let mut i = 0;
-    while i < object.len() {
-        if object[i] as usize == i + 1 {
+    for (i, label) in object.iter().enumerate() {
+        if *label as usize == i + 1 {
             return true;
         }
-        i += 1;
     }
     false
 }
 
 // Does the slice hold a derangement of n places?
+#[tactic(auto, unfolding(crate::specs::Objects::is_derangement))]
 pub fn is_object(n: u64, object: &[u8]) -> bool
     requires { n ≤ places }
     ensures { result ≡ is_derangement n object.now }
 {
-    if !permutations::is_object(n as usize, object) {
-        return false;
-    }
-    !has_fixed_point(object)
+    permutations::is_object(n as usize, object) && !has_fixed_point(object)
 }
 
 // The earliest.
@@ -49,7 +46,7 @@ pub fn first(object: &mut [u8])
     requires fact { length object.old ≡ 1 → ⊥ }
     ensures { First (derangements (length object.old)) object.new }
 {
-    ends::write_end(false, object);
+    ends::write_first(object);
 }
 
 // The latest.
@@ -58,7 +55,7 @@ pub fn last(object: &mut [u8])
     requires fact { length object.old ≡ 1 → ⊥ }
     ensures { Last (derangements (length object.old)) object.new }
 {
-    ends::write_end(true, object);
+    ends::write_last(object);
 }
 
 // The derangement just after.

@@ -1,5 +1,6 @@
 // A step to the next or the previous derangement: one function for both directions. What is left without the key moves first, and where it can't the key does.
-ghost use Rattle.std.specs.Prelude.{◌≡◌, true, ◌*◌, ◌≤◌, length, take};
+// `up` is a bool, as the direction is in what all kinds say of a step (`Beside`, `Edge` and `step_call` of `listings`).
+ghost use Rattle.std.specs.Prelude.{◌≡◌, true, ◌*◌, ◌≤◌, length, take, if◌then◌else◌};
 ghost use Rattle.basics.specs.Limits.{places};
 ghost use Rattle.listings.specs.Calls.{Said, act};
 ghost use Rattle.listings.specs.Directions.{Edge, step_call};
@@ -14,6 +15,7 @@ use crate::ends::write_end;
 use listings::Step;
 
 // The lowest key that a derangement of n places has.
+#[tactic(auto, unfolding(crate::specs::Inner::Keys::low_key))]
 fn low_key(n: usize) -> u8
     ensures { result ≡ low_key n }
 {
@@ -21,6 +23,7 @@ fn low_key(n: usize) -> u8
 }
 
 // The highest: of three places none has key 3 or 4, which would leave one place.
+#[tactic(auto, unfolding(crate::specs::Inner::Keys::high_key))]
 fn high_key(n: usize) -> u8
     requires { (2 ≤ n) × (n ≤ places) }
     ensures { result ≡ high_key n }
@@ -28,23 +31,17 @@ fn high_key(n: usize) -> u8
     if n == 3 { 2 } else { 2 * (n - 1) as u8 }
 }
 
-// Is there a key beyond this one?
-fn can_go(up: bool, n: usize, key: u8) -> bool
+// The key beside this one, if there is one.
+#[tactic(auto, unfolding(crate::specs::Inner::Moves::goes))]
+fn beside(up: bool, n: usize, key: u8) -> Option<u8>
     requires { (2 ≤ n) × (n ≤ places) }
-    ensures { result ≡ goes up n key }
+    ensures { result ≡ (if goes up n key then Some (key_beside up key) else None) }
 {
-    if up {
-        return key < high_key(n);
+    match up {
+        true if key < high_key(n) => Some(key + 1),
+        false if low_key(n) < key => Some(key - 1),
+        _ => None,
     }
-    low_key(n) < key
-}
-
-// The key beside it.
-fn beside(up: bool, key: u8) -> u8
-    requires { (1 ≤ key) × (key ≤ 2 * places) }
-    ensures { result ≡ key_beside up key }
-{
-    if up { key + 1 } else { key - 1 }
 }
 
 // What is left can't move: the key does, and what is left with it starts over; or all is put together as it was.
@@ -55,11 +52,10 @@ fn turn(up: bool, key: u8, object: &mut [u8]) -> Step
     ensures { AfterStep up (derangements (length object.old)) (join (length object.old) key (take (left_of (length object.old) key) object.old)) result object.new }
 {
     let n = object.len();
-    if !can_go(up, n, key) {
+    let Some(moved) = beside(up, n, key) else {
         put_together(key, object);
         return Step::End;
-    }
-    let moved = beside(up, key);
+    };
     let left = left_of(n, moved);
     write_end(!up, &mut object[..left]);
     put_together(moved, object);
@@ -72,16 +68,18 @@ fn step(up: bool, object: &mut [u8]) -> Step
     requires object_value { is_derangement (length object.old) object.old ≡ true }
     ensures { AfterStep up (derangements (length object.old)) object.old result object.new }
 {
-    if object.len() == 0 {
+    if object.is_empty() {
         return Step::End;
     }
     let key = take_apart(object);
     let left = left_of(object.len(), key);
-    let Step::Moved = step(up, &mut object[..left]) else {
-        return turn(up, key, object);
-    };
-    put_together(key, object);
-    Step::Moved
+    match step(up, &mut object[..left]) {
+        Step::Moved => {
+            put_together(key, object);
+            Step::Moved
+        }
+        Step::End => turn(up, key, object),
+    }
 }
 
 // The derangement just after, or going back just before.
