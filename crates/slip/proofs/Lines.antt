@@ -23,6 +23,7 @@ use Rattle.families.specs.Calls.{respond}
 use Rattle.columns.specs.Columns.{newline, column}
 use Rattle.slip.specs.Sizes.{count_width, listed_at_most}
 use Rattle.slip.specs.Text.{word_end, word_more, family_columns, first_line, object_line, object_lines, last_line, body, listed_text, said, family_text}
+use Rattle.columns.specs.declared.Text.{Text}
 use Rattle.columns.specs.Inner.Writing.{Wrote}
 use Rattle.columns.proofs.Writes.{then}
 
@@ -33,8 +34,8 @@ bytes-snoc g (b ∷ x) zero h = append-nil (g b)
 bytes-snoc g (b ∷ x) (suc i) h = rw (bytes-snoc g x i (omega arith), append_assoc)
 
 -- one byte more
-pub bytes-more : (g : ℕ → Bytes) (x : Bytes) (i : ℕ) → i < length x → flat_map g (take (i + 1) x) ≡ flat_map g (take i x) ++ g (get_or x i 0)
-bytes-more g x i h = rw add-one (bytes-snoc g x i h)
+pub bytes_more : (g : ℕ → Bytes) (x : Bytes) (i : ℕ) → i < length x → flat_map g (take (i + 1) x) ≡ flat_map g (take i x) ++ g (get_or x i 0)
+bytes_more g x i h = rw add-one (bytes-snoc g x i h)
 
 lines_snoc : (s : ℕ) (l : List Bytes) (r : ℕ) {x : Bytes} → At l x r → object_lines s (take (suc r) l) ≡ object_lines s (take r l) ++ object_line (s + r) x
 unfolding object_lines
@@ -45,7 +46,7 @@ lines_snoc s (y ∷ l) (suc r) {x} h =
     rw (lines_snoc (suc s) l r h, append_assoc, e)
 
 -- one line more
-pub line_written : (s : ℕ) (l : List Bytes) (r : ℕ) {d e g x : Bytes} {at end till : ℕ} → Wrote d at e end (object_lines s (take r l)) → At l x r → Wrote e end g till (object_line (s + r) x) → Wrote d at g till (object_lines s (take (r + 1) l))
+pub line_written : (s : ℕ) (l : List Bytes) (r : ℕ) {d e g : Text} {x : Bytes} → Wrote d e (object_lines s (take r l)) → At l x r → Wrote e g (object_line (s + r) x) → Wrote d g (object_lines s (take (r + 1) l))
 line_written s l r v h w = rw (add-one, lines_snoc s l r h) (then v w)
 
 -- the body with another number of lines at most
@@ -53,24 +54,24 @@ abbrev pub up_to : ℕ → ℕ → List Bytes → Bytes
 up_to s m l = object_lines s (take m l) ++ last_line (cond (ltb m (length l)) word_more word_end)
 
 -- END behind the last line
-pub ended : (s : ℕ) (l : List Bytes) (r : ℕ) {d e g : Bytes} {at end till : ℕ} → Wrote d at e end (object_lines s (take r l)) → r ≡ length l → r ≤ listed_at_most → Wrote e end g till (last_line word_end) → Wrote d at g till (body s l)
+pub ended : (s : ℕ) (l : List Bytes) (r : ℕ) {d e g : Text} → Wrote d e (object_lines s (take r l)) → r ≡ length l → r ≤ listed_at_most → Wrote e g (last_line word_end) → Wrote d g (body s l)
 unfolding body
 ended s l r v e h w =
     rw (take_all listed_at_most l (omega arith), le-ltb listed_at_most (length l) (omega arith), ← take_all r l (omega arith)) (then v w)
 
 -- MORE behind as many lines as are listed at most
-pub cut : (s : ℕ) (l : List Bytes) (r : ℕ) {d e g : Bytes} {at end till : ℕ} → Wrote d at e end (object_lines s (take r l)) → r < length l → r ≡ listed_at_most → Wrote e end g till (last_line word_more) → Wrote d at g till (body s l)
+pub cut : (s : ℕ) (l : List Bytes) (r : ℕ) {d e g : Text} → Wrote d e (object_lines s (take r l)) → r < length l → r ≡ listed_at_most → Wrote e g (last_line word_more) → Wrote d g (body s l)
 unfolding body
-cut s l r {d} {g = g} {at} {till = till} v h e w =
-    subst (λ (m : ℕ). Wrote d at g till (up_to s m l)) e (rw (lt-ltb r (length l) h) (then v w))
+cut s l r {d} {g = g} v h e w =
+    subst (λ (m : ℕ). Wrote d g (up_to s m l)) e (rw (lt-ltb r (length l) h) (then v w))
 
 -- END alone
-pub nothing_listed : (s : ℕ) (l : List Bytes) {d g : Bytes} {at till : ℕ} → l ≡ [] → Wrote d at g till (last_line word_end) → Wrote d at g till (body s l)
+pub nothing_listed : (s : ℕ) (l : List Bytes) {d g : Text} → l ≡ [] → Wrote d g (last_line word_end) → Wrote d g (body s l)
 unfolding body object_lines
 nothing_listed s l e w = rw e w
 
 -- the first line, and what stands behind it
-pub headed : (s : ℕ) (f : Family) (b : Lent) {count d e g p q : Bytes} {at c i j k : ℕ} → Wrote d at e c (family_columns f) → Wrote e c g i count → Wrote g i p j (newline ∷ []) → Wrote p j q k (body s (listing f b)) → Wrote d at q k (listed_text s count f b)
+pub headed : (s : ℕ) (f : Family) (b : Lent) {count : Bytes} {d e g p q : Text} → Wrote d e (family_columns f) → Wrote e g count → Wrote g p (newline ∷ []) → Wrote p q (body s (listing f b)) → Wrote d q (listed_text s count f b)
 unfolding listed_text first_line
 headed s f b u v w y = simp append_assoc (simp append_assoc at (then (then (then u v) w) y))
 

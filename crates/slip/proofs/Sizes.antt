@@ -16,14 +16,15 @@ use Rattle.families.specs.Table.{Lent}
 use Rattle.families.specs.Families.{is_object, listing, count_of}
 use Rattle.families.specs.Questions.{refusal}
 use Rattle.families.proofs.FamilyFacts.{listed, lawful, object-allowed, short}
-use Rattle.slip.specs.declared.Rendered.{Rendered}
-use Rattle.slip.specs.declared.Rendered.TheVariants.{Text}
+use Rattle.std.specs.Prelude.{Result, Ok, IsErr}
+use Rattle.slip.specs.declared.Short.{Short}
 use Rattle.columns.specs.Columns.{column, justified}
 use Rattle.columns.specs.Fields.{field_width}
 use Rattle.grammar.specs.Grammar.{Slip, slip_of}
 use Rattle.grammar.specs.Sizes.{family_width}
 use Rattle.slip.specs.Sizes.{count_width, object_line_width, last_line_width, refused_width, listed_at_most, longest_body, largest}
 use Rattle.slip.specs.Text.{word_end, word_more, word_many, family_columns, first_line, object_line, object_lines, last_line, body, listed_text, refused_text, said, family_text, family_of, lent_by, text_of, output}
+use Rattle.columns.specs.declared.Text.{Text as Written}
 use Rattle.columns.specs.Inner.Writing.{Wrote}
 use Rattle.slip.specs.Rendering.{Renders}
 use Rattle.columns.proofs.ColumnLaws.{length-column}
@@ -99,19 +100,20 @@ unfolding output
 output-fits x = text_long (slip_of x)
 
 -- a text that stands at the start of the buffer
-pub rendered : (input : Bytes) {d e : Bytes} {r : ℕ} {s : Option Slip} → largest ≤ length d → slip_of input ≡ s → Wrote d 0 e r (text_of s) → Renders input d e (Text r)
+pub rendered : (input : Bytes) {d e : Written} {s : Option Slip} → largest ≤ length d.buffer.now → d.len ≡ 0 → slip_of input ≡ s → Wrote d e (text_of s) → Renders input d.buffer.now e.buffer.now (Ok e.len)
 unfolding output
-rendered input {d} {e} {r} {s} h p w =
-    let q : r ≡ length (text_of s) = omega (arith, w.till) in
+rendered input {d} {e} {s} h z p w =
+    let q : e.len ≡ length (text_of s) = omega (arith, w.till) in
+    let whole : take e.len e.buffer.now ≡ text_of s = w.bytes ∙ rw z refl in
     record {
-      whole = λ k. rw p (ap Text q, rw (← q) w.bytes);
+      whole = λ k. rw p (ap {B = Result ℕ Short} Ok q, rw (← q) whole);
       short = λ k. absurd (omega arith);
     }
 
 -- which ends within the buffer
-pub ends_within : {input d e : Bytes} {r : Rendered} {n : ℕ} → Renders input d e r → largest ≤ length d → r ≡ Text n → n ≤ length e
+pub ends_within : {input d e : Bytes} {r : Result ℕ Short} {n : ℕ} → Renders input d e r → largest ≤ length d → r ≡ Ok n → n ≤ length e
 ends_within {input} {e = e} {n = n} w h t =
     let p = w.whole h in
-    let told : Text n ≡ Text (length (output input)) = sym t ∙ p.0 in
+    let told : ◌≡◌ {A = Result ℕ Short} (Ok n) (Ok (length (output input))) = sym t ∙ p.0 in
     let same : n ≡ length (output input) = cc in
     omega (arith, length-take (length (output input)) e, ap length p.1)

@@ -27,7 +27,8 @@ use Rattle.columns.proofs.FieldLaws.{field-none, reads_back}
 use Rattle.grammar.specs.Grammar.{Slip, fields, fields_on, head_of, counts_on, second_line, handed_on, with_counts, slip_with, slip_of}
 use Rattle.grammar.specs.Sizes.{line_width, family_width}
 use Rattle.grammar.specs.Inner.Reading.{slip_at}
-use Rattle.grammar.proofs.SlipLaws.{first, first_short, first_open, first-fields, fields_front, four_on, field-newline, slip_short, slip_open, slip_three, slip_four, slip_unnumbered, slip_start}
+use Rattle.grammar.proofs.LineLaws.{fields_front}
+use Rattle.grammar.proofs.SlipLaws.{first, first_short, first_open, first-fields, four_on, field-newline, slip_short, slip_open, slip_three, slip_four, slip_unnumbered, slip_start}
 use Rattle.slip.specs.Sizes.{count_width, listed_at_most}
 use Rattle.slip.proofs.Sizes.{first-long, last-long}
 use Rattle.slip.specs.Text.{word_end, word_more, word_many, first_line, object_line, object_lines, last_line, body, listed_text, refused_text, said, family_text, text_of, output}
