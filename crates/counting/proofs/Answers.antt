@@ -1,25 +1,22 @@
 -- What an answer about a count tells, and which answer a count has: both directions of `fits`.
 -- Assumes nothing.
-use mathlib.Core.Path.{◌≡◌, refl, sym, ◌∙◌, ap}
+use mathlib.Core.Path.{◌≡◌, refl, sym, ◌∙◌}
 use mathlib.Core.Bool.{Bool, true, false, ◌&&◌, cond, and-false}
-use mathlib.Core.Logic.{◌⊎◌, inl, inr, ⊎_elim}
-use mathlib.Core.List.{[], ◌∷◌}
+use mathlib.Core.Logic.{◌⊎◌, inl, inr}
 use Prim.Native.Nat.{ℕ, ◌≤◌, ◌<◌, ◌^◌}
 use native.Mathlib.Omega.{arith}
 use lib.Dec.{leb, ltb}
 use borrow.Author.Tests.{lt-ltb, le-ltb, ltb-true, ltb-false, le-leb, lt-leb}
-use types.Run.{OneOf}
-use denote.Enum.Declared.{tag_of}
-use Rattle.counting.specs.declared.Count.{Count}
-use Rattle.counting.specs.declared.Count.TheVariants.{Exactly, TooLarge, Outside}
+use Rattle.std.specs.Prelude.{Result, Ok, Err}
+use Rattle.counting.specs.declared.CountError.{CountError}
+use Rattle.counting.specs.declared.CountError.TheVariants.{TooLarge, Outside}
 use Rattle.counting.specs.Answers.{fits, if_fits}
-use Rattle.counting.specs.contracts.Count.{the_type}
 
-pub fits_small : (v : ℕ) → v < 2 ^ 64 → fits v ≡ Exactly v
+pub fits_small : (v : ℕ) → v < 2 ^ 64 → fits v ≡ Ok v
 unfolding fits
 fits_small v h = rw (lt-ltb v (2 ^ 64) h)
 
-pub fits_large : (v : ℕ) → 2 ^ 64 ≤ v → fits v ≡ TooLarge
+pub fits_large : (v : ℕ) → 2 ^ 64 ≤ v → fits v ≡ Err TooLarge
 unfolding fits
 fits_large v h = rw (le-ltb v (2 ^ 64) h)
 
@@ -33,51 +30,56 @@ pub if_large : {v : ℕ} → 2 ^ 64 ≤ v → if_fits v ≡ 0
 unfolding if_fits
 if_large {v} h = rw (le-ltb v (2 ^ 64) h)
 
-picked : (t : Bool) (v x : ℕ) → cond t (Exactly v) TooLarge ≡ Exactly x → (t ≡ true) × (v ≡ x)
+picked : (t : Bool) (v x : ℕ) → cond t (Ok v) (Err TooLarge) ≡ Ok x → (t ≡ true) × (v ≡ x)
 picked true v x e = (refl, cc)
-picked false v x e = let z : ◌≡◌ {A = ℕ} 0 1 = cc in absurd (omega arith)
+picked false v x e = absurd (cc)
 
-not_picked : (t : Bool) (v : ℕ) → cond t (Exactly v) TooLarge ≡ TooLarge → t ≡ false
-not_picked true v e = let z : ◌≡◌ {A = ℕ} 0 1 = cc in absurd (omega arith)
+not_picked : (t : Bool) (v : ℕ) {e : CountError} → cond t (Ok v) (Err TooLarge) ≡ Err e → t ≡ false
+not_picked true v e = absurd (cc)
 not_picked false v e = refl
 
 -- an exact answer is the count, which is below 2^64
-pub exactly : (v x : ℕ) → fits v ≡ Exactly x → v ≡ x
+pub exactly : (v x : ℕ) → fits v ≡ Ok x → v ≡ x
 unfolding fits
 exactly v x e = (picked (ltb v (2 ^ 64)) v x e).1
 
-pub exactly_below : (v x : ℕ) → fits v ≡ Exactly x → v < 2 ^ 64
+pub exactly_below : (v x : ℕ) → fits v ≡ Ok x → v < 2 ^ 64
 unfolding fits
 exactly_below v x e = ltb-true v (2 ^ 64) (picked (ltb v (2 ^ 64)) v x e).0
 
-pub too_large : (v : ℕ) → fits v ≡ TooLarge → 2 ^ 64 ≤ v
+pub too_large : (v : ℕ) → fits v ≡ Err TooLarge → 2 ^ 64 ≤ v
 unfolding fits
 too_large v e = ltb-false v (2 ^ 64) (not_picked (ltb v (2 ^ 64)) v e)
 
 -- a count is one of the two
-pub answered : (v : ℕ) → ((v < 2 ^ 64) × (fits v ≡ Exactly v)) ⊎ ((2 ^ 64 ≤ v) × (fits v ≡ TooLarge))
+pub answered : (v : ℕ) → ((v < 2 ^ 64) × (fits v ≡ Ok v)) ⊎ ((2 ^ 64 ≤ v) × (fits v ≡ Err TooLarge))
 answered v = go (ltb v (2 ^ 64)) refl
   where
-    go : (t : Bool) → ltb v (2 ^ 64) ≡ t → ((v < 2 ^ 64) × (fits v ≡ Exactly v)) ⊎ ((2 ^ 64 ≤ v) × (fits v ≡ TooLarge))
+    go : (t : Bool) → ltb v (2 ^ 64) ≡ t → ((v < 2 ^ 64) × (fits v ≡ Ok v)) ⊎ ((2 ^ 64 ≤ v) × (fits v ≡ Err TooLarge))
     go true e = let h = ltb-true v (2 ^ 64) e in inl (h, fits_small v h)
     go false e = let h = ltb-false v (2 ^ 64) e in inr (h, fits_large v h)
 
 -- an answer that is not exact tells that the count is too large
-pub not_exact : (v : ℕ) {r : Count} → r ≡ fits v → OneOf (1 ∷ 2 ∷ []) (tag_of the_type r) → 2 ^ 64 ≤ v
-not_exact v e keys = ⊎_elim (λ s. ⊎_elim (λ z. omega arith) (λ z. omega arith) (rw (e ∙ s.1) at keys)) (λ l. l.0) (answered v)
+pub not_exact : (v : ℕ) {r : Result ℕ CountError} {e : CountError} → r ≡ fits v → r ≡ Err e → 2 ^ 64 ≤ v
+unfolding fits
+not_exact v is err = ltb-false v (2 ^ 64) (not_picked (ltb v (2 ^ 64)) v (sym is ∙ err))
 
-pub within_in : (t : Bool) (a : Count) → t ≡ true → cond t a Outside ≡ a
+-- where a number is too large, a larger one is too
+pub fits_more : {v w : ℕ} {e : CountError} → Err e ≡ fits v → v ≤ w → Err e ≡ fits w
+fits_more {v} {w} is h = let large = not_exact v refl (sym is) in is ∙ fits_large v large ∙ sym (fits_large w (omega arith))
+
+pub within_in : (t : Bool) (a : Result ℕ CountError) → t ≡ true → cond t a (Err Outside) ≡ a
 within_in t a e = rw e
 
-pub within_out : (t : Bool) (a : Count) → t ≡ false → cond t a Outside ≡ Outside
+pub within_out : (t : Bool) (a : Result ℕ CountError) → t ≡ false → cond t a (Err Outside) ≡ Err Outside
 within_out t a e = rw e
 
 -- the answers of a function within the limits, from what it returns
 
-pub exactly_within : {t : Bool} {v x : ℕ} → t ≡ true → x ≡ v → v < 2 ^ 64 → Exactly x ≡ cond t (fits v) Outside
-exactly_within {t} {v} e same h = ap Exactly same ∙ sym (within_in t (fits v) e ∙ fits_small v h)
+pub exactly_within : {t : Bool} {v x : ℕ} → t ≡ true → x ≡ v → v < 2 ^ 64 → Ok x ≡ cond t (fits v) (Err Outside)
+exactly_within {t} {v} e same h = rw (same, within_in t (fits v) e) (sym (fits_small v h))
 
-pub large_within : {t : Bool} {v : ℕ} → t ≡ true → 2 ^ 64 ≤ v → TooLarge ≡ cond t (fits v) Outside
+pub large_within : {t : Bool} {v : ℕ} → t ≡ true → 2 ^ 64 ≤ v → Err TooLarge ≡ cond t (fits v) (Err Outside)
 large_within {t} {v} e h = sym (within_in t (fits v) e ∙ fits_large v h)
 
 -- two arguments with one limit

@@ -1,2 +1,3 @@
--- The laws of the answers: what an answer tells of a count, and which answer a count has.
+-- The laws of the answers: what an answer tells of a count, and which answer a count has; and the product of binomials.
 pub mod Answers
+pub mod Products

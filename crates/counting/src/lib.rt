@@ -7,7 +7,7 @@ ghost use Rattle.std.specs.Prelude.{◌≡◌, ◌&&◌, cond, leb};
 ghost use Rattle.basics.specs.Limits.{places, branches, floors};
 ghost use Rattle.basics.specs.Sums.{total};
 ghost use Rattle.numbers.specs.Numbers.{choose, factorial_of, multinomial_of, stirling_of, parts_from, catalan_of, derangements_of};
-ghost use Rattle.counting.specs.declared.Count.TheVariants.{Outside};
+ghost use Rattle.counting.specs.declared.CountError.TheVariants.{Outside};
 ghost use Rattle.counting.specs.Answers.{fits, if_fits};
 
 mod product;
@@ -15,114 +15,116 @@ mod short;
 
 use basics::{BRANCHES, FLOORS, PLACES};
 
-#[derive(Clone, Copy)]
-pub enum Count {
-    // The count, below 2^64.
-    Exactly(u64),
+// Why there is no count to give.
+#[derive(Clone, Copy, Debug, PartialEq, Eq)]
+pub enum CountError {
     // The count is 2^64 or more.
     TooLarge,
-    // The arguments lie outside the limits of paper 01's table.
+    // The arguments lie outside the limits of the table of families.
     Outside,
 }
 
+// The count, below 2^64, or why there is none.
+pub type Count = Result<u64, CountError>;
+
 // Kind 1, what COUNT answers: subsets of k out of n, a number of paper 01's constant table or worked out from it.
 pub fn subset_count(n: u64, k: u64) -> Count
-    ensures { result ≡ cond (leb n places && leb k places) (fits (choose n k)) Outside }
+    ensures { result ≡ cond (leb n places && leb k places) (fits (choose n k)) (Err Outside) }
 {
     if PLACES < n {
-        return Count::Outside;
+        return Err(CountError::Outside);
     }
     if PLACES < k {
-        return Count::Outside;
+        return Err(CountError::Outside);
     }
     if !binomials::coefficient_fits(n, k) {
-        return Count::TooLarge;
+        return Err(CountError::TooLarge);
     }
-    Count::Exactly(pascal::entry(n, k))
+    Ok(pascal::entry(n, k))
 }
 
 // The same number for the questions and for products, by a few multiplications whatever the row.
 pub fn coefficient(n: u64, k: u64) -> Count
-    ensures { result ≡ cond (leb n places && leb k places) (fits (choose n k)) Outside }
+    ensures { result ≡ cond (leb n places && leb k places) (fits (choose n k)) (Err Outside) }
 {
     if PLACES < n {
-        return Count::Outside;
+        return Err(CountError::Outside);
     }
     if PLACES < k {
-        return Count::Outside;
+        return Err(CountError::Outside);
     }
     product::ways_out_of(n, k)
 }
 
 // Kind 2: anagrams, letter i as often as counts[i] says.
 pub fn multinomial(counts: &[u8]) -> Count
-    ensures { result ≡ cond (leb (total counts.now) places) (fits (multinomial_of counts.now)) Outside }
+    ensures { result ≡ cond (leb (total counts.now) places) (fits (multinomial_of counts.now)) (Err Outside) }
 {
     if product::within_places(counts) {
         return product::of_binomials(counts);
     }
-    Count::Outside
+    Err(CountError::Outside)
 }
 
 // Kind 3: permutations of n.
 pub fn factorial(n: u64) -> Count
-    ensures { result ≡ cond (leb n places) (fits (factorial_of n)) Outside }
+    ensures { result ≡ cond (leb n places) (fits (factorial_of n)) (Err Outside) }
 {
     if PLACES < n {
-        return Count::Outside;
+        return Err(CountError::Outside);
     }
     if 20 < n {
-        return Count::TooLarge;
+        return Err(CountError::TooLarge);
     }
-    Count::Exactly(short::factorial(n))
+    Ok(short::factorial(n))
 }
 
 // Kind 4: partitions of a set of n into k blocks.
 pub fn stirling(n: u64, k: u64) -> Count
-    ensures { result ≡ cond (leb n places && leb k places) (fits (stirling_of n k)) Outside }
+    ensures { result ≡ cond (leb n places && leb k places) (fits (stirling_of n k)) (Err Outside) }
 {
     if PLACES < n {
-        return Count::Outside;
+        return Err(CountError::Outside);
     }
     if PLACES < k {
-        return Count::Outside;
+        return Err(CountError::Outside);
     }
     if !stirlings::stirling_fits(n, k) {
-        return Count::TooLarge;
+        return Err(CountError::TooLarge);
     }
-    Count::Exactly(stirlings::stirling(n, k))
+    Ok(stirlings::stirling(n, k))
 }
 
 // Kind 5: partitions of the number n into exactly k parts, each at least the floor.
 pub fn partitions(floor: u64, n: u64, k: u64) -> Count
-    ensures { result ≡ cond ((leb 1 floor && leb floor floors) && (leb n places && leb k places)) (fits (parts_from floor n k)) Outside }
+    ensures { result ≡ cond ((leb 1 floor && leb floor floors) && (leb n places && leb k places)) (fits (parts_from floor n k)) (Err Outside) }
 {
     if floor < 1 {
-        return Count::Outside;
+        return Err(CountError::Outside);
     }
     if FLOORS < floor {
-        return Count::Outside;
+        return Err(CountError::Outside);
     }
     if PLACES < n {
-        return Count::Outside;
+        return Err(CountError::Outside);
     }
     if PLACES < k {
-        return Count::Outside;
+        return Err(CountError::Outside);
     }
-    Count::Exactly(partition_numbers::at_least(floor, n, k))
+    Ok(partition_numbers::at_least(floor, n, k))
 }
 
 // Kind 6: Dyck words with n of each.
 pub fn catalan(n: u64) -> Count
-    ensures { result ≡ cond (leb n branches) (fits (catalan_of n)) Outside }
+    ensures { result ≡ cond (leb n branches) (fits (catalan_of n)) (Err Outside) }
 {
     if BRANCHES < n {
-        return Count::Outside;
+        return Err(CountError::Outside);
     }
     if 36 < n {
-        return Count::TooLarge;
+        return Err(CountError::TooLarge);
     }
-    Count::Exactly(short::catalan(n))
+    Ok(short::catalan(n))
 }
 
 // The same number where it fits, else 0.
@@ -134,15 +136,15 @@ pub fn catalan_that_fits(n: u64) -> u64
 
 // Kind 7: derangements of n.
 pub fn derangement(n: u64) -> Count
-    ensures { result ≡ cond (leb n places) (fits (derangements_of n)) Outside }
+    ensures { result ≡ cond (leb n places) (fits (derangements_of n)) (Err Outside) }
 {
     if PLACES < n {
-        return Count::Outside;
+        return Err(CountError::Outside);
     }
     if n <= 20 {
-        return Count::Exactly(short::derangement(n));
+        return Ok(short::derangement(n));
     }
-    Count::TooLarge
+    Err(CountError::TooLarge)
 }
 
 // The same number where it fits, else 0.

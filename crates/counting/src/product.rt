@@ -5,7 +5,7 @@ ghost use Rattle.basics.specs.Sums.{total};
 ghost use Rattle.numbers.specs.Numbers.{choose, multinomial_of};
 ghost use Rattle.counting.specs.Answers.{fits};
 
-use crate::Count;
+use crate::{Count, CountError};
 use basics::{PLACES, sum_to_limit, wide};
 use binomials::{coefficient, coefficient_fits};
 
@@ -22,9 +22,9 @@ pub fn ways_out_of(n: u64, k: u64) -> Count
     ensures { result ≡ fits (choose n k) }
 {
     if !coefficient_fits(n, k) {
-        return Count::TooLarge;
+        return Err(CountError::TooLarge);
     }
-    Count::Exactly(coefficient(n, k))
+    Ok(coefficient(n, k))
 }
 
 // x * y, or too large. For two numbers of 32 bits it takes no division to tell.
@@ -33,16 +33,16 @@ fn times(x: u64, y: u64) -> Count
 {
     if x < 4294967296 {
         if y < 4294967296 {
-            return Count::Exactly(x * y);
+            return Ok(x * y);
         }
     }
     if y == 0 {
-        return Count::Exactly(0);
+        return Ok(0);
     }
     if x <= 18446744073709551615 / y {
-        return Count::Exactly(x * y);
+        return Ok(x * y);
     }
-    Count::TooLarge
+    Err(CountError::TooLarge)
 }
 
 // The words of the last letters, one letter more at each turn: first the places of that letter, then the word of the others.
@@ -52,18 +52,10 @@ pub fn of_binomials(counts: &[u8]) -> Count
 {
     let mut words: u64 = 1;
     let mut length: u64 = 0;
-    let mut i = counts.len();
-    while 0 < i {
-        i -= 1;
-        let c = wide(counts[i]);
-        length += c;
-        let Count::Exactly(ways) = ways_out_of(length, c) else {
-            return Count::TooLarge;
-        };
-        let Count::Exactly(more) = times(words, ways) else {
-            return Count::TooLarge;
-        };
-        words = more;
+    for c in counts.iter().rev() {
+        let places = wide(*c);
+        length += places;
+        words = times(words, ways_out_of(length, places)?)?;
     }
-    Count::Exactly(words)
+    Ok(words)
 }
