@@ -34,7 +34,8 @@ use basics::LONGEST_OBJECT;
 use calls::{Heard, answer, call_of, hear, is_put, name};
 use families::{Call, Family, Lists, Refusal};
 use std::io;
-use test_support::{Numbers, behind, bytes, cut, each_case, family, text};
+use test_families::family;
+use test_support::{Numbers, behind, bytes, cut, each_case, text};
 use walks::{walk, with_object};
 
 // A case's label, its family, and the lists lent beside it.

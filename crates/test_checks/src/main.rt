@@ -25,7 +25,8 @@ ghost use Rattle.io.specs.Counts.{IsPrefixLen};
 use checker::CheckError;
 use families::{Family, Lists};
 use std::io;
-use test_support::{Numbers, behind, cut, each_case, family, text, within};
+use test_families::family;
+use test_support::{Numbers, behind, cut, each_case, text, within};
 
 // The most bytes of a list.
 const ROOM: usize = 65536;

@@ -17,7 +17,8 @@
 
 use families::{Family, Lists};
 use std::io;
-use test_support::{Numbers, behind, bytes, cut, each_case, family, text};
+use test_families::family;
+use test_support::{Numbers, behind, bytes, cut, each_case, text};
 
 // More bytes than any object or list of counts has.
 const MOST: usize = 100;

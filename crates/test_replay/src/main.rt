@@ -16,7 +16,8 @@
 use basics::LONGEST_OBJECT;
 use families::{Family, Lists};
 use std::io;
-use test_support::{Numbers, behind, bytes, cut, each_case, family, text, within};
+use test_families::family;
+use test_support::{Numbers, behind, bytes, cut, each_case, text, within};
 
 // The most calls of a case.
 const MOST: usize = 100;

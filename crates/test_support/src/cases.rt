@@ -1,6 +1,5 @@
-// The cases of the files that a program's arguments name, a line each, and the family that a section of a line says.
-use crate::{Numbers, read_file, without_newline};
-use families::Family;
+// The cases of the files that a program's arguments name, a line each.
+use crate::{read_file, without_newline};
 use std::alloc::Alloc;
 use std::env::Env;
 use std::rt::Files;
@@ -8,21 +7,6 @@ use std::{env, io};
 
 // As much of a file as is read.
 const ROOM: usize = 65536;
-
-// The family that a section says.
-pub fn family(section: &[u8]) -> Family {
-    let mut numbers = Numbers::of(section);
-    let kind = numbers.number();
-    let n = numbers.number();
-    let k = numbers.number();
-    let floor = numbers.number();
-    let edition = numbers.number();
-    Family {
-        floor,
-        edition,
-        ..families::plain_family(kind, n, k)
-    }
-}
 
 // Every line of a text, without the newline that ends it.
 pub fn each_line<F: Fn(&[u8]) -> io::Result<()>>(s: &[u8], one_line: &F) -> io::Result<()>

@@ -8,7 +8,7 @@ ghost use Rattle.io.specs.Counts.{IsPrefixLen};
 mod cases;
 mod sections;
 
-pub use cases::{each_case, each_line, family};
+pub use cases::{each_case, each_line};
 pub use sections::{Numbers, behind, cut};
 use std::rt::Files;
 use std::{fs, io};

@@ -30,6 +30,20 @@ impl<'a> Numbers<'a> {
         matches!(self.rest, [] | [b'/', ..])
     }
 
+    // Whether nothing is left, not even a stroke.
+    pub fn is_empty(&self) -> bool {
+        self.rest.is_empty()
+    }
+
+    // Passes over a minus that stands here, and answers whether one did.
+    pub fn skip_minus(&mut self) -> bool {
+        if let [b'-', rest @ ..] = self.rest {
+            self.rest = rest;
+            return true;
+        }
+        false
+    }
+
     // The number that begins here, the largest where it is too large; none, which is 0, where the section ends.
     pub fn number(&mut self) -> u64 {
         let rest = self.rest;

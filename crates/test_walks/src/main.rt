@@ -26,8 +26,9 @@ ghost use Rattle.std.specs.Prelude.{◌≤◌, length};
 use basics::LONGEST_OBJECT;
 use families::{Lists, Refusal, codes};
 use std::io;
+use test_families::family;
 use test_support::{
-    Numbers, behind, bytes, cut, digest, each_case, family, mixed, text, within,
+    Numbers, behind, bytes, cut, digest, each_case, mixed, text, within,
 };
 use walk::{Stride, Walk};
 
@@ -131,6 +132,19 @@ fn gone<'a, 'b>(
     Ok(after)
 }
 
+// Reads the steps from here on, as far as there is room, and answers how many.
+fn ways(steps: &mut Numbers, on: &mut [bool]) -> usize
+    ensures { result ≤ length on.new }
+{
+    for (i, way) in on.iter_mut().enumerate() {
+        if steps.is_empty() {
+            return i;
+        }
+        *way = steps.number() == 1;
+    }
+    on.len()
+}
+
 fn one_leg<'a>(rt: &impl Print, walk: Walk, first: Lists<'a>, leg: &[u8]) -> io::Result<Walk> {
     let mut counts = [0u8; LONGEST_OBJECT];
     let lent = Numbers::of(leg).list(&mut counts);
@@ -139,7 +153,7 @@ fn one_leg<'a>(rt: &impl Print, walk: Walk, first: Lists<'a>, leg: &[u8]) -> io:
     let mut answers = [UNWRITTEN; MOST];
     let room = within(steps.number(), &answers);
     let mut on = [false; MOST];
-    let many = steps.fill(&mut on, |way| way == 1);
+    let many = ways(&mut steps, &mut on);
     gone(
         rt,
         walk,
