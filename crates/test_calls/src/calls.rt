@@ -1,97 +1,83 @@
 // The calls by their letters, their answers, and how both are printed.
-use families::{Counted, Family, Lists, Ranked, Stepped, Written};
+use crate::Case;
+use families::{Call, Refusal};
+use listings::Step;
 use std::io;
-use test_support::{number, text, wide};
 
-// What any call answers.
+// What a call hears that isn't refused.
 #[derive(Clone, Copy)]
 pub enum Heard {
     Number(u64),
     Written,
     Stepped,
     End,
-    Refused(u64),
 }
 
-pub fn call<'a>(letter: u8, rank: u64, f: Family, lists: Lists<'a>, object: &mut [u8]) -> Heard {
-    match letter {
-        b'c' => counted(families::count(f, lists)),
-        b'r' => ranked(families::rank(f, lists, object)),
-        b'f' | b'F' => written(families::first(f, lists, object)),
-        b'l' | b'L' => written(families::last(f, lists, object)),
-        b'u' | b'U' => written(families::unrank(rank, f, lists, object)),
-        b'n' | b'N' => stepped(families::next(f, lists, object)),
-        _ => stepped(families::previous(f, lists, object)),
-    }
-}
-
-fn counted(c: Counted) -> Heard {
-    match c {
-        Counted::Objects(n) => Heard::Number(n),
-        Counted::Refused(q) => Heard::Refused(wide(q)),
-    }
-}
-
-fn ranked(r: Ranked) -> Heard {
-    match r {
-        Ranked::Rank(v) => Heard::Number(v),
-        Ranked::Refused(q) => Heard::Refused(wide(q)),
-    }
-}
-
-fn written(w: Written) -> Heard {
-    match w {
-        Written::Done => Heard::Written,
-        Written::Refused(q) => Heard::Refused(wide(q)),
-    }
-}
-
-fn stepped(s: Stepped) -> Heard {
-    match s {
-        Stepped::Moved => Heard::Stepped,
-        Stepped::End => Heard::End,
-        Stepped::Refused(q) => Heard::Refused(wide(q)),
-    }
-}
-
-// Whether the bytes are now an object that the call put there.
-pub fn is_put(heard: Heard) -> bool {
-    match heard {
-        Heard::Written | Heard::Stepped => true,
-        _ => false,
-    }
-}
-
-pub fn answer(rt: &impl Print, heard: Heard) -> io::Result<()> {
-    match heard {
-        Heard::Number(v) => number(rt, v),
-        Heard::Written => text(rt, b" written"),
-        Heard::Stepped => text(rt, b" stepped"),
-        Heard::End => text(rt, b" END"),
-        Heard::Refused(q) => {
-            text(rt, b" refused")?;
-            number(rt, q)
+impl From<Step> for Heard {
+    fn from(step: Step) -> Heard {
+        match step {
+            Step::Moved => Heard::Stepped,
+            Step::End => Heard::End,
         }
     }
 }
 
-// What the letter asks.
-pub fn title(rt: &impl Print, letter: u8) -> io::Result<()> {
+// The call that a letter asks for; only UNRANK reads the rank.
+pub fn call_of(letter: u8, rank: u64) -> Call {
     match letter {
-        b'c' => text(rt, b", COUNT"),
-        b'r' => text(rt, b", RANK"),
-        b'f' | b'F' => text(rt, b", FIRST"),
-        b'l' | b'L' => text(rt, b", LAST"),
-        b'u' | b'U' => text(rt, b", UNRANK"),
-        b'n' | b'N' => text(rt, b", NEXT"),
-        _ => text(rt, b", PREVIOUS"),
+        b'c' => Call::Count,
+        b'r' => Call::Rank,
+        b'f' | b'F' => Call::First,
+        b'l' | b'L' => Call::Last,
+        b'u' | b'U' => Call::Unrank(rank),
+        b'n' | b'N' => Call::Next,
+        _ => Call::Previous,
     }
 }
 
-// The number answered, or the largest: no rank is as large, since a rank is below a count that fits.
-pub fn number_of(heard: Heard) -> u64 {
-    match heard {
-        Heard::Number(v) => v,
-        _ => 18446744073709551615,
+pub fn hear<'a>(call: Call, case: Case<'a>, object: &mut [u8]) -> Result<Heard, Refusal> {
+    let f = case.family;
+    let lists = case.lists;
+    match call {
+        Call::Count => families::count(f, lists).map(Heard::Number),
+        Call::Rank => families::rank(f, lists, object).map(Heard::Number),
+        Call::First => families::first(f, lists, object).map(|_| Heard::Written),
+        Call::Last => families::last(f, lists, object).map(|_| Heard::Written),
+        Call::Unrank(rank) => families::unrank(rank, f, lists, object).map(|_| Heard::Written),
+        Call::Next => families::next(f, lists, object).map(Heard::from),
+        Call::Previous => families::previous(f, lists, object).map(Heard::from),
     }
+}
+
+// Whether the bytes are now an object that the call put there.
+pub fn is_put(heard: Result<Heard, Refusal>) -> bool {
+    matches!(heard, Ok(Heard::Written) | Ok(Heard::Stepped))
+}
+
+pub fn answer(rt: &impl Print, heard: Result<Heard, Refusal>) -> io::Result<()> {
+    match heard {
+        Ok(Heard::Number(v)) => print!(rt; " {v}"),
+        Ok(Heard::Written) => print!(rt; " written"),
+        Ok(Heard::Stepped) => print!(rt; " stepped"),
+        Ok(Heard::End) => print!(rt; " END"),
+        Err(refusal) => print!(rt; " refused {}", u8::from(refusal)),
+    }
+}
+
+// The call's name.
+pub fn name(call: Call) -> &'static str {
+    match call {
+        Call::Count => "COUNT",
+        Call::Rank => "RANK",
+        Call::First => "FIRST",
+        Call::Last => "LAST",
+        Call::Unrank(_) => "UNRANK",
+        Call::Next => "NEXT",
+        Call::Previous => "PREVIOUS",
+    }
+}
+
+// RANK's number, or the largest: no rank is as large, since a rank is below a count that fits.
+pub fn rank_of<'a>(case: Case<'a>, object: &[u8]) -> u64 {
+    families::rank(case.family, case.lists, object).unwrap_or(u64::MAX)
 }

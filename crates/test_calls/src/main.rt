@@ -27,52 +27,59 @@
 // with bdcaccb. A list is FIRST, and NEXT of each object that the source lists.
 #![tactic(auto)]
 
-ghost use Rattle.std.specs.Prelude.{◌≤◌, length};
-
 mod calls;
 mod walks;
 
 use basics::LONGEST_OBJECT;
-use calls::{Heard, answer, call, is_put, title};
-use families::{Family, Lists};
-use std::rt::Files;
-use std::{env, io};
-use test_support::{behind, bytes, decimal, end_line, list, number, text, until};
-use walks::{summed, walk, with_object};
+use calls::{Heard, answer, call_of, hear, is_put, name};
+use families::{Call, Family, Lists, Refusal};
+use std::io;
+use test_families::family;
+use test_support::{Numbers, behind, bytes, cut, each_case, text};
+use walks::{walk, with_object};
 
-// As much of a file as is read.
-const ROOM: usize = 65536;
+// A case's label, its family, and the lists lent beside it.
+#[derive(Clone, Copy)]
+struct Case<'a> {
+    label: &'a [u8],
+    family: Family,
+    lists: Lists<'a>,
+}
 
 // How a call's line begins.
-fn heading(rt: &impl Print, label: &[u8], letter: u8, rank: u64) -> io::Result<()> {
+fn heading(rt: &impl Print, label: &[u8], call: Call) -> io::Result<()> {
     text(rt, label)?;
-    title(rt, letter)?;
-    match letter {
-        b'u' | b'U' => number(rt, rank)?,
-        _ => {}
+    print!(rt; ", {}", name(call))?;
+    if let Call::Unrank(rank) = call {
+        print!(rt; " {rank}")?;
     }
-    text(rt, b":")
+    print!(rt; ":")
 }
 
 // How it ends: of COUNT and RANK by the number, of the others by the answer and a digest of the object, or by the object.
-fn report(rt: &impl Print, letter: u8, heard: Heard, object: &[u8]) -> io::Result<()> {
+fn report(
+    rt: &impl Print,
+    letter: u8,
+    heard: Result<Heard, Refusal>,
+    object: &[u8],
+) -> io::Result<()> {
     match letter {
         b'c' | b'r' => {
             answer(rt, heard)?;
-            end_line(rt)
+            println!(rt;)
         }
         b'A'..=b'Z' => {
             shown(rt, heard, object)?;
-            end_line(rt)
+            println!(rt;)
         }
         _ => {
             answer(rt, heard)?;
-            summed(rt, with_object(0, object))
+            println!(rt; ", digest {}", with_object(0, object))
         }
     }
 }
 
-fn shown(rt: &impl Print, heard: Heard, object: &[u8]) -> io::Result<()> {
+fn shown(rt: &impl Print, heard: Result<Heard, Refusal>, object: &[u8]) -> io::Result<()> {
     if is_put(heard) {
         return bytes(rt, object);
     }
@@ -81,121 +88,48 @@ fn shown(rt: &impl Print, heard: Heard, object: &[u8]) -> io::Result<()> {
 
 fn operation<'a>(
     rt: &impl Print,
-    label: &[u8],
     letter: u8,
     rank: u64,
-    f: Family,
-    lists: Lists<'a>,
+    case: Case<'a>,
     object: &mut [u8],
 ) -> io::Result<()> {
     match letter {
-        b'w' | b'b' | b't' | b'>' | b'<' | b'a' | b'z' => {
-            walk(rt, label, letter, f, lists, object)
-        }
+        b'w' | b'b' | b't' | b'>' | b'<' | b'a' | b'z' => walk(rt, letter, case, object),
         _ => {
-            heading(rt, label, letter, rank)?;
-            let heard = call(letter, rank, f, lists, object);
+            let call = call_of(letter, rank);
+            heading(rt, case.label, call)?;
+            let heard = hear(call, case, object);
             report(rt, letter, heard, object)
         }
     }
 }
 
-// The letters, up to the first blank.
-fn operations<'a>(
-    rt: &impl Print,
-    label: &[u8],
-    letters: &[u8],
-    rank: u64,
-    f: Family,
-    lists: Lists<'a>,
-    object: &mut [u8],
-) -> io::Result<()> {
-    let mut i = 0;
-    while i < letters.len() {
-        if letters[i] == b' ' {
-            return Ok(());
-        }
-        operation(rt, label, letters[i], rank, f, lists, object)?;
-        i += 1;
-    }
-    Ok(())
-}
-
-// The family that a section says.
-fn family(line: &[u8], start: usize) -> Family {
-    let kind = decimal(line, start);
-    let n = decimal(line, kind.end);
-    let k = decimal(line, n.end);
-    let floor = decimal(line, k.end);
-    let edition = decimal(line, floor.end);
-    Family {
-        floor: floor.value,
-        edition: edition.value,
-        ..families::plain_family(kind.value, n.value, k.value)
-    }
-}
-
-// The sections from the object on: it is read, then the lists lent beside the family, and the letters are asked.
-fn lend(
-    rt: &impl Print,
-    label: &[u8],
-    letters: &[u8],
-    rank: u64,
-    f: Family,
-    line: &[u8],
-    start: usize,
-) -> io::Result<()>
-    requires { start ≤ length line.now }
-{
-    let mut object = [0u8; LONGEST_OBJECT];
-    let places = list(line, start, &mut object);
-    let mut counts = [0u8; LONGEST_OBJECT];
-    let lent = list(line, behind(line, start, b'/'), &mut counts);
-    let lists = families::only_counts(&counts[..lent]);
-    operations(rt, label, letters, rank, f, lists, &mut object[..places])
-}
-
+// A case: its letters, up to the first blank, are asked in turn of the object, which is read once.
 fn one_case(rt: &impl Print, line: &[u8]) -> io::Result<()> {
-    let colon = until(line, 0, b':');
-    let asked = behind(line, colon, b':');
+    let (label, marked) = cut(line, b':');
+    let asked = behind(marked, b':');
+    let (letters, _) = cut(asked, b' ');
     // The word of letters is passed as a number is.
-    let rank = decimal(line, decimal(line, asked).end).value;
-    let first = behind(line, asked, b'/');
-    let second = behind(line, first, b'/');
-    lend(
-        rt,
-        &line[..colon],
-        &line[asked..],
-        rank,
-        family(line, first),
-        line,
-        second,
-    )
-}
-
-fn cases(rt: &impl Print, s: &[u8]) -> io::Result<()> {
-    let mut at = 0;
-    while at < s.len() {
-        let end = until(s, at, b'\n');
-        one_case(rt, &s[at..end])?;
-        if end == s.len() {
-            return Ok(());
-        }
-        at = end + 1;
+    let mut words = Numbers::of(asked);
+    words.number();
+    let rank = words.number();
+    let section = behind(asked, b'/');
+    let lent = behind(section, b'/');
+    let mut object = [0u8; LONGEST_OBJECT];
+    let places = Numbers::of(lent).list(&mut object);
+    let mut counts = [0u8; LONGEST_OBJECT];
+    let letters_lent = Numbers::of(behind(lent, b'/')).list(&mut counts);
+    let case = Case {
+        label,
+        family: family(section),
+        lists: families::only_counts(&counts[..letters_lent]),
+    };
+    for letter in letters {
+        operation(rt, *letter, rank, case, &mut object[..places])?;
     }
     Ok(())
-}
-
-fn file<R: Files + Print>(rt: &R, name: &str) -> io::Result<()> {
-    let mut input = [0u8; ROOM];
-    let read = test_support::read_file(rt, name.as_bytes(), &mut input)?;
-    cases(rt, &input[..read])
 }
 
 fn main(rt: HostRuntime) -> io::Result<()> {
-    // The first is the program's own name.
-    for name in env::args(&rt)?.skip(1) {
-        file(&rt, name.as_str())?;
-    }
-    Ok(())
+    each_case(&rt, |line| one_case(&rt, line))
 }

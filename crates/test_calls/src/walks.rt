@@ -1,8 +1,9 @@
 // Walks through a listing, by steps or through the ranks.
-use crate::calls::{Heard, answer, call, is_put, number_of, title};
-use families::{Family, Lists};
+use crate::Case;
+use crate::calls::{Heard, answer, call_of, hear, is_put, name, rank_of};
+use families::Refusal;
 use std::io;
-use test_support::{bytes, digest, end_line, mixed, number, text};
+use test_support::{bytes, digest, mixed, text};
 
 // More objects than any walk to the end meets here.
 const TO_THE_END: u64 = 5000;
@@ -10,12 +11,12 @@ const TO_THE_END: u64 = 5000;
 // What closes an object in a digest: no byte.
 const CLOSED: u64 = 300;
 
-// The calls by which a walk begins and goes on, and how many objects it meets at most.
+// The letters of the calls by which a walk begins and goes on, and how many objects it meets at most.
 #[derive(Clone, Copy)]
-pub struct Route {
-    pub start: u8,
-    pub step: u8,
-    pub limit: u64,
+struct Route {
+    start: u8,
+    step: u8,
+    limit: u64,
 }
 
 // The digest with one object more.
@@ -24,53 +25,45 @@ pub fn with_object(sum: u64, object: &[u8]) -> u64 {
 }
 
 // How a walk's line begins.
-fn heading(rt: &impl Print, label: &[u8], way: Route) -> io::Result<()> {
+fn heading(rt: &impl Print, label: &[u8], route: Route) -> io::Result<()> {
     text(rt, label)?;
-    title(rt, way.start)?;
-    title(rt, way.step)?;
-    text(rt, b" ..:")
+    let start = name(call_of(route.start, 0));
+    let step = name(call_of(route.step, 0));
+    print!(rt; ", {start}, {step} ..:")
 }
 
 // Going on through a listing: the object, its rank, and the object of that rank, written over zeros.
-fn listed<'a>(rt: &impl Print, f: Family, lists: Lists<'a>, object: &mut [u8]) -> io::Result<()> {
+fn listed<'a>(rt: &impl Print, case: Case<'a>, object: &mut [u8]) -> io::Result<()> {
     bytes(rt, object)?;
-    title(rt, b'r')?;
-    let rank = number_of(call(b'r', 0, f, lists, object));
-    number(rt, rank)?;
-    title(rt, b'u')?;
-    listings::fill_with(object, 0);
-    call(b'u', rank, f, lists, object);
+    let rank = rank_of(case, object);
+    print!(rt; ", RANK {rank}, UNRANK")?;
+    object.fill(0);
+    let _ = families::unrank(rank, case.family, case.lists, object);
     bytes(rt, object)?;
-    end_line(rt)
+    println!(rt;)
 }
 
 // The line of an object that a walk meets: in a listing, and through the ranks where the rank differs.
 fn meet<'a>(
     rt: &impl Print,
-    label: &[u8],
     letter: u8,
     met: u64,
-    f: Family,
-    lists: Lists<'a>,
+    case: Case<'a>,
     object: &mut [u8],
 ) -> io::Result<()> {
     match letter {
         b'a' => {
-            heading(rt, label, route_of(letter))?;
-            listed(rt, f, lists, object)
+            heading(rt, case.label, route_of(letter))?;
+            listed(rt, case, object)
         }
         b'z' => {
-            heading(rt, label, route_of(letter))?;
+            heading(rt, case.label, route_of(letter))?;
             bytes(rt, object)?;
-            end_line(rt)
+            println!(rt;)
         }
-        b't' => {
-            if number_of(call(b'r', 0, f, lists, object)) != met {
-                heading(rt, label, route_of(letter))?;
-                text(rt, b" rank differs")?;
-                end_line(rt)?;
-            }
-            Ok(())
+        b't' if rank_of(case, object) != met => {
+            heading(rt, case.label, route_of(letter))?;
+            println!(rt; " rank differs")
         }
         _ => Ok(()),
     }
@@ -111,7 +104,7 @@ fn ended(
     rt: &impl Print,
     label: &[u8],
     letter: u8,
-    heard: Heard,
+    heard: Result<Heard, Refusal>,
     objects: u64,
     sum: u64,
 ) -> io::Result<()> {
@@ -120,41 +113,29 @@ fn ended(
         _ => {
             heading(rt, label, route_of(letter))?;
             answer(rt, heard)?;
-            text(rt, b", objects")?;
-            number(rt, objects)?;
-            summed(rt, sum)
+            println!(rt; ", objects {objects}, digest {sum}")
         }
     }
-}
-
-// How a line with a digest ends.
-pub fn summed(rt: &impl Print, sum: u64) -> io::Result<()> {
-    text(rt, b", digest")?;
-    number(rt, sum)?;
-    end_line(rt)
 }
 
 pub fn walk<'a>(
     rt: &impl Print,
-    label: &[u8],
     letter: u8,
-    f: Family,
-    lists: Lists<'a>,
+    case: Case<'a>,
     object: &mut [u8],
 ) -> io::Result<()> {
-    let way = route_of(letter);
-    let limit = way.limit;
+    let route = route_of(letter);
     let mut sum = 0;
     let mut met = 0;
-    let mut heard = call(way.start, 0, f, lists, object);
-    while met < limit && is_put(heard) {
+    let mut heard = hear(call_of(route.start, 0), case, object);
+    while met < route.limit && is_put(heard) {
         sum = with_object(sum, object);
-        meet(rt, label, letter, met, f, lists, object)?;
+        meet(rt, letter, met, case, object)?;
         met += 1;
-        let next = call(way.step, met, f, lists, object);
-        if limit == TO_THE_END {
+        let next = hear(call_of(route.step, met), case, object);
+        if route.limit == TO_THE_END {
             heard = next;
         }
     }
-    ended(rt, label, letter, heard, met, sum)
+    ended(rt, case.label, letter, heard, met, sum)
 }

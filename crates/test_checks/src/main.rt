@@ -22,13 +22,13 @@
 ghost use Rattle.std.specs.Prelude.{◌≤◌, length};
 ghost use Rattle.io.specs.Counts.{IsPrefixLen};
 
-use checker::Checked;
+use checker::CheckError;
 use families::{Family, Lists};
-use std::rt::Files;
-use std::{env, io};
-use test_support::{behind, decimal, end_line, list, number, text, until, wide, within};
+use std::io;
+use test_families::family;
+use test_support::{Numbers, behind, cut, each_case, text, within};
 
-// As much of a file as is read, and the most bytes of a list.
+// The most bytes of a list.
 const ROOM: usize = 65536;
 
 // The most bytes in the middle of a list.
@@ -37,19 +37,13 @@ const MIDDLE: usize = 4096;
 // More counts than any family has.
 const MOST: usize = 100;
 
-fn told(rt: &impl Print, answer: Checked) -> io::Result<()> {
+fn told(rt: &impl Print, answer: Result<(), CheckError>) -> io::Result<()> {
     match answer {
-        Checked::Accepted => text(rt, b" accepted")?,
-        Checked::Wrong(place) => {
-            text(rt, b" wrong")?;
-            number(rt, place)?;
-        }
-        Checked::Refused(q) => {
-            text(rt, b" refused")?;
-            number(rt, wide(q))?;
-        }
+        Ok(()) => print!(rt; " accepted;"),
+        Err(CheckError::Wrong(place)) => print!(rt; " wrong {place};"),
+        Err(CheckError::Refused(refusal)) => print!(rt; " refused {};", u8::from(refusal)),
+        Err(CheckError::Entries) => print!(rt; " refused 12;"),
     }
-    text(rt, b";")
 }
 
 // Writes the bytes to the room, from that place on, as far as there is room, and answers where they end.
@@ -57,14 +51,10 @@ fn put(room: &mut [u8], start: usize, bytes: &[u8]) -> usize
     requires { start ≤ length room.old }
     ensures { IsPrefixLen result room.new }
 {
-    let mut at = start;
-    let mut i = 0;
-    while at < room.len() && i < bytes.len() {
-        room[at] = bytes[i];
-        at += 1;
-        i += 1;
-    }
-    at
+    let many = bytes.len().min(room.len() - start);
+    let end = start + many;
+    room[start..end].copy_from_slice(&bytes[..many]);
+    end
 }
 
 // The list that a section says, with its bytes in the room.
@@ -76,104 +66,58 @@ fn one_list<'a>(
     section: &[u8],
     room: &mut [u8],
 ) -> io::Result<()> {
-    let entries = decimal(section, 0);
-    let from = decimal(section, entries.end);
-    let to = decimal(section, from.end);
+    let mut numbers = Numbers::of(section);
+    let entries = numbers.number();
+    let head = within(numbers.number(), bytes);
+    let tail = within(numbers.number(), bytes);
     let mut middle = [0u8; MIDDLE];
-    let changed = list(section, to.end, &mut middle);
-    let head = within(from.value, bytes);
-    let tail = within(to.value, bytes);
+    let changed = numbers.list(&mut middle);
     let first = put(room, 0, &bytes[..head]);
     let second = put(room, first, &middle[..changed]);
     let end = put(room, second, &bytes[tail..]);
-    told(rt, checker::check(f, lists, entries.value, &room[..end]))
+    told(rt, checker::check(f, lists, entries, &room[..end]))
 }
 
-// Every section from here on.
+// Every section.
 fn each_list<'a>(
     rt: &impl Print,
     f: Family,
     lists: Lists<'a>,
     bytes: &[u8],
-    line: &[u8],
-    start: usize,
-    room: &mut [u8],
-) -> io::Result<()>
-    requires { start ≤ length line.now }
-{
-    let mut at = start;
-    while at < line.len() {
-        let end = until(line, at, b'/');
-        one_list(rt, f, lists, bytes, &line[at..end], room)?;
-        if line.len() - end < 2 {
-            return Ok(());
-        }
-        at = end + 2;
+    sections: &[u8],
+) -> io::Result<()> {
+    let mut room = [0u8; ROOM];
+    let mut rest = sections;
+    while !rest.is_empty() {
+        let (section, marked) = cut(rest, b'/');
+        one_list(rt, f, lists, bytes, section, &mut room)?;
+        rest = behind(marked, b'/');
     }
     Ok(())
-}
-
-// The family that a section says.
-fn family(line: &[u8], start: usize) -> Family {
-    let kind = decimal(line, start);
-    let n = decimal(line, kind.end);
-    let k = decimal(line, n.end);
-    let floor = decimal(line, k.end);
-    let edition = decimal(line, floor.end);
-    Family {
-        floor: floor.value,
-        edition: edition.value,
-        ..families::plain_family(kind.value, n.value, k.value)
-    }
 }
 
 fn one_case(rt: &impl Print, line: &[u8]) -> io::Result<()> {
-    let colon = until(line, 0, b':');
-    text(rt, &line[..colon])?;
-    text(rt, b":")?;
-    let first = behind(line, colon, b':');
-    let second = behind(line, first, b'/');
-    let third = behind(line, second, b'/');
+    let (label, marked) = cut(line, b':');
+    text(rt, label)?;
+    print!(rt; ":")?;
+    let first = behind(marked, b':');
+    let second = behind(first, b'/');
+    let third = behind(second, b'/');
     let mut counts = [0u8; MOST];
-    let lent = list(line, second, &mut counts);
+    let lent = Numbers::of(second).list(&mut counts);
     let mut bytes = [0u8; ROOM];
-    let given = list(line, third, &mut bytes);
-    let mut room = [0u8; ROOM];
+    let given = Numbers::of(third).list(&mut bytes);
+    let lists = families::only_counts(&counts[..lent]);
     each_list(
         rt,
-        family(line, first),
-        families::only_counts(&counts[..lent]),
+        family(first),
+        lists,
         &bytes[..given],
-        line,
-        behind(line, third, b'/'),
-        &mut room,
+        behind(third, b'/'),
     )?;
-    end_line(rt)
-}
-
-fn cases(rt: &impl Print, s: &[u8]) -> io::Result<()> {
-    let mut at = 0;
-    while at < s.len() {
-        let end = until(s, at, b'\n');
-        one_case(rt, &s[at..end])?;
-        if end == s.len() {
-            return Ok(());
-        }
-        at = end + 1;
-    }
-    Ok(())
-}
-
-fn file<R: Files + Print>(rt: &R, name: &str) -> io::Result<()> {
-    let mut input = [0u8; ROOM];
-    let read = test_support::read_file(rt, name.as_bytes(), &mut input)?;
-    cases(rt, &input[..read])
+    println!(rt;)
 }
 
 fn main(rt: HostRuntime) -> io::Result<()> {
-    // The first is the program's own name.
-    for name in env::args(&rt)?.skip(1) {
-        file(&rt, name.as_str())?;
-    }
-    Ok(())
+    each_case(&rt, |line| one_case(&rt, line))
 }

@@ -12,83 +12,87 @@ ghost use Rattle.std.specs.Prelude.{◌≤◌, ◌+◌};
 ghost use Rattle.basics.specs.Limits.{places};
 
 use basics::{LONGEST_OBJECT, PLACES};
-use counting::Count;
+use counting::{Count, CountError};
 use std::io;
-use test_support::{behind, decimal, end_line, list, number, read_input, text, until};
+use test_support::{Numbers, behind, cut, each_line, read_input, text};
 
 // The rows within the limits, and one beyond them.
 const ROWS: u64 = PLACES + 2;
 
+// The counts of one number or two, by the letter that their names begin with.
+#[derive(Clone, Copy)]
+enum Counted {
+    Binomial,
+    Stirling,
+    Partitions,
+    Factorial,
+    Derangement,
+    Catalan,
+}
+
+// The count whose name begins with the letter.
+fn counted_by(letter: u8) -> Counted {
+    match letter {
+        b'b' => Counted::Binomial,
+        b's' => Counted::Stirling,
+        b'p' => Counted::Partitions,
+        b'f' => Counted::Factorial,
+        b'd' => Counted::Derangement,
+        _ => Counted::Catalan,
+    }
+}
+
 // What ends every line.
-fn answer(rt: &impl Print, c: Count) -> io::Result<()> {
-    text(rt, b":")?;
-    match c {
-        Count::Exactly(v) => number(rt, v)?,
-        Count::TooLarge => text(rt, b" too large")?,
-        Count::Outside => text(rt, b" outside")?,
-    }
-    end_line(rt)
-}
-
-// The count whose name begins with the letter; only partitions have a floor.
-fn count(letter: u8, n: u64, k: u64, floor: u64) -> Count {
-    match letter {
-        b'b' => counting::subset_count(n, k),
-        b's' => counting::stirling(n, k),
-        b'p' => counting::partitions(floor, n, k),
-        b'f' => counting::factorial(n),
-        b'd' => counting::derangement(n),
-        _ => counting::catalan(n),
+fn answer(rt: &impl Print, count: Count) -> io::Result<()> {
+    match count {
+        Ok(v) => println!(rt; ": {v}"),
+        Err(CountError::TooLarge) => println!(rt; ": too large"),
+        Err(CountError::Outside) => println!(rt; ": outside"),
     }
 }
 
-fn name(rt: &impl Print, letter: u8) -> io::Result<()> {
-    match letter {
-        b'b' => text(rt, b"binomial"),
-        b's' => text(rt, b"stirling"),
-        b'p' => text(rt, b"partitions"),
-        b'f' => text(rt, b"factorial"),
-        b'd' => text(rt, b"derangement"),
-        _ => text(rt, b"catalan"),
+// Only partitions have a floor.
+fn count(counted: Counted, n: u64, k: u64, floor: u64) -> Count {
+    match counted {
+        Counted::Binomial => counting::subset_count(n, k),
+        Counted::Stirling => counting::stirling(n, k),
+        Counted::Partitions => counting::partitions(floor, n, k),
+        Counted::Factorial => counting::factorial(n),
+        Counted::Derangement => counting::derangement(n),
+        Counted::Catalan => counting::catalan(n),
     }
 }
 
-fn one(rt: &impl Print, letter: u8, n: u64) -> io::Result<()> {
-    name(rt, letter)?;
-    number(rt, n)?;
-    answer(rt, count(letter, n, 0, 1))
-}
-
-fn two(rt: &impl Print, letter: u8, n: u64, k: u64) -> io::Result<()> {
-    name(rt, letter)?;
-    number(rt, n)?;
-    number(rt, k)?;
-    answer(rt, count(letter, n, k, 1))
-}
-
-fn three(rt: &impl Print, letter: u8, n: u64, k: u64, floor: u64) -> io::Result<()> {
-    name(rt, letter)?;
-    number(rt, n)?;
-    number(rt, k)?;
-    number(rt, floor)?;
-    answer(rt, count(letter, n, k, floor))
-}
-
-// The largest two numbers stand for no count: they have prime factors above the largest n, and a binomial has none.
-fn code(c: Count) -> u64 {
-    match c {
-        Count::Exactly(v) => v,
-        Count::TooLarge => 18446744073709551615,
-        Count::Outside => 18446744073709551614,
+fn name(counted: Counted) -> &'static str {
+    match counted {
+        Counted::Binomial => "binomial",
+        Counted::Stirling => "stirling",
+        Counted::Partitions => "partitions",
+        Counted::Factorial => "factorial",
+        Counted::Derangement => "derangement",
+        Counted::Catalan => "catalan",
     }
+}
+
+fn one(rt: &impl Print, counted: Counted, n: u64) -> io::Result<()> {
+    print!(rt; "{} {n}", name(counted))?;
+    answer(rt, count(counted, n, 0, 1))
+}
+
+fn two(rt: &impl Print, counted: Counted, n: u64, k: u64) -> io::Result<()> {
+    print!(rt; "{} {n} {k}", name(counted))?;
+    answer(rt, count(counted, n, k, 1))
+}
+
+fn three(rt: &impl Print, counted: Counted, n: u64, k: u64, floor: u64) -> io::Result<()> {
+    print!(rt; "{} {n} {k} {floor}", name(counted))?;
+    answer(rt, count(counted, n, k, floor))
 }
 
 // The two ways to a binomial; a line only where they differ, so none is expected.
 fn agree(rt: &impl Print, n: u64, k: u64) -> io::Result<()> {
-    if code(counting::coefficient(n, k)) != code(counting::subset_count(n, k)) {
-        text(rt, b"coefficient")?;
-        number(rt, n)?;
-        number(rt, k)?;
+    if counting::coefficient(n, k) != counting::subset_count(n, k) {
+        print!(rt; "coefficient {n} {k}")?;
         answer(rt, counting::coefficient(n, k))?;
     }
     Ok(())
@@ -100,59 +104,45 @@ fn rows(rt: &impl Print, n: u64) -> io::Result<()>
 {
     for k in 0..n + 2 {
         agree(rt, n, k)?;
-        two(rt, b'b', n, k)?;
-        two(rt, b's', n, k)?;
-        two(rt, b'p', n, k)?;
-        three(rt, b'p', n, k, 2)?;
+        two(rt, Counted::Binomial, n, k)?;
+        two(rt, Counted::Stirling, n, k)?;
+        two(rt, Counted::Partitions, n, k)?;
+        three(rt, Counted::Partitions, n, k, 2)?;
     }
-    one(rt, b'f', n)?;
-    one(rt, b'c', n)?;
-    one(rt, b'd', n)
+    one(rt, Counted::Factorial, n)?;
+    one(rt, Counted::Catalan, n)?;
+    one(rt, Counted::Derangement, n)
 }
 
 // A multinomial, of one letter more than there are places at the most.
-fn word(rt: &impl Print, line: &[u8], start: usize) -> io::Result<()> {
+fn word(rt: &impl Print, section: &[u8]) -> io::Result<()> {
     let mut counts = [0u8; LONGEST_OBJECT + 1];
-    let len = list(line, start, &mut counts);
+    let len = Numbers::of(section).list(&mut counts);
     answer(rt, counting::multinomial(&counts[..len]))
 }
 
-fn edge(rt: &impl Print, letter: u8, line: &[u8]) -> io::Result<()> {
-    let colon = until(line, 0, b':');
-    text(rt, &line[..colon])?;
-    let start = behind(line, colon, b':');
+// A line of the input: the text is printed, and what it asks for is answered.
+fn edge(rt: &impl Print, line: &[u8]) -> io::Result<()> {
+    let letter = line.first().copied().unwrap_or(b'\n');
+    let (label, marked) = cut(line, b':');
+    text(rt, label)?;
+    let section = behind(marked, b':');
     if letter == b'm' {
-        return word(rt, line, start);
+        return word(rt, section);
     }
-    let n = decimal(line, start);
-    let k = decimal(line, n.end);
-    let floor = decimal(line, k.end);
-    answer(rt, count(letter, n.value, k.value, floor.value))
-}
-
-fn edges(rt: &impl Print, s: &[u8]) -> io::Result<()> {
-    let mut at = 0;
-    while at < s.len() {
-        let end = until(s, at, b'\n');
-        edge(rt, s[at], &s[at..end])?;
-        if end == s.len() {
-            return Ok(());
-        }
-        at = end + 1;
-    }
-    Ok(())
-}
-
-fn all_rows(rt: &impl Print) -> io::Result<()> {
-    for n in 0..ROWS {
-        rows(rt, n)?;
-    }
-    Ok(())
+    let mut numbers = Numbers::of(section);
+    let n = numbers.number();
+    let k = numbers.number();
+    let floor = numbers.number();
+    answer(rt, count(counted_by(letter), n, k, floor))
 }
 
 fn main(rt: HostRuntime) -> io::Result<()> {
     let mut input = [0u8; 65536];
     let read = read_input(&rt, &mut input)?;
-    edges(&rt, &input[..read])?;
-    all_rows(&rt)
+    each_line(&input[..read], &|line| edge(&rt, line))?;
+    for n in 0..ROWS {
+        rows(&rt, n)?;
+    }
+    Ok(())
 }

@@ -16,19 +16,15 @@
 #![tactic(auto)]
 
 use families::{Family, Lists};
-use std::num::{wrapping_add_u64, wrapping_sub_u64};
-use std::rt::Files;
-use std::{env, io};
-use test_support::{Read, behind, bytes, decimal, end_line, list, number, text, until, wide};
-
-// As much of a file as is read.
-const ROOM: usize = 65536;
+use std::io;
+use test_families::family;
+use test_support::{Numbers, behind, bytes, cut, each_case, text};
 
 // More bytes than any object or list of counts has.
 const MOST: usize = 100;
 
 // A distance d is read, counted up and printed as d + 2^63 (offset binary), which is unsigned: 0 stands for the smallest.
-const MIDDLE: u64 = 9223372036854775808;
+const MIDDLE: u64 = 1 << 63;
 
 // `!m` is - (m + 1), which reaches the smallest and can't overflow.
 fn distance(offset: u64) -> i64 {
@@ -39,32 +35,21 @@ fn distance(offset: u64) -> i64 {
 }
 
 // The signed number that begins here, in offset binary.
-fn signed(line: &[u8], start: usize) -> Read {
-    if start < line.len() {
-        if line[start] == b'-' {
-            let size = decimal(line, start + 1);
-            return Read {
-                value: wrapping_sub_u64(MIDDLE, size.value),
-                end: size.end,
-            };
-        }
-    }
-    let size = decimal(line, start);
-    Read {
-        value: wrapping_add_u64(MIDDLE, size.value),
-        end: size.end,
+fn signed(numbers: &mut Numbers) -> u64 {
+    if numbers.skip_minus() {
+        MIDDLE.wrapping_sub(numbers.number())
+    } else {
+        MIDDLE.wrapping_add(numbers.number())
     }
 }
 
 // How a jump's part of the line begins.
 fn heading(rt: &impl Print, offset: u64) -> io::Result<()> {
     if offset < MIDDLE {
-        let below = MIDDLE - offset;
-        print!(rt; " -{below}")?;
+        print!(rt; " -{}:", MIDDLE - offset)
     } else {
-        number(rt, offset - MIDDLE)?;
+        print!(rt; " {}:", offset - MIDDLE)
     }
-    text(rt, b":")
 }
 
 // Jumps, and prints the answer by its code, where that isn't 20, written, and the bytes that are there then. Answers whether it was written.
@@ -78,11 +63,8 @@ fn jumped<'a>(
     let code = jump::code(jump::jump(f, lists, distance(offset), object));
     match code {
         20 => {}
-        100 => text(rt, b" END")?,
-        _ => {
-            text(rt, b" refused")?;
-            number(rt, wide(code))?;
-        }
+        100 => print!(rt; " END")?,
+        _ => print!(rt; " refused {code}")?,
     }
     bytes(rt, object)?;
     Ok(code == 20)
@@ -98,15 +80,12 @@ fn there_and_back<'a>(
 ) -> io::Result<()> {
     heading(rt, offset)?;
     let written = jumped(rt, offset, f, lists, object)?;
-    if !written {
-        return Ok(());
-    }
     // The smallest distance has no opposite.
-    if offset == 0 {
+    if !written || offset == 0 {
         return Ok(());
     }
-    text(rt, b", back")?;
-    jumped(rt, wrapping_sub_u64(0, offset), f, lists, object)?;
+    print!(rt; ", back")?;
+    jumped(rt, 0u64.wrapping_sub(offset), f, lists, object)?;
     Ok(())
 }
 
@@ -119,82 +98,33 @@ fn one_jump<'a>(
     section: &[u8],
 ) -> io::Result<()> {
     let mut object = [0u8; MOST];
-    let places = list(section, 0, &mut object);
+    let places = Numbers::of(section).list(&mut object);
     there_and_back(rt, offset, f, lists, &mut object[..places])?;
-    text(rt, b";")
-}
-
-// Every distance in turn; the last behind the loop, since no number follows the largest.
-fn jumps<'a>(
-    rt: &impl Print,
-    first: u64,
-    last: u64,
-    f: Family,
-    lists: Lists<'a>,
-    section: &[u8],
-) -> io::Result<()> {
-    let mut offset = first;
-    while offset < last {
-        one_jump(rt, offset, f, lists, section)?;
-        offset += 1;
-    }
-    one_jump(rt, last, f, lists, section)
-}
-
-// The family that a section says.
-fn family(line: &[u8], start: usize) -> Family {
-    let kind = decimal(line, start);
-    let n = decimal(line, kind.end);
-    let k = decimal(line, n.end);
-    let floor = decimal(line, k.end);
-    let edition = decimal(line, floor.end);
-    Family {
-        floor: floor.value,
-        edition: edition.value,
-        ..families::plain_family(kind.value, n.value, k.value)
-    }
+    print!(rt; ";")
 }
 
 fn one_case(rt: &impl Print, line: &[u8]) -> io::Result<()> {
-    let colon = until(line, 0, b':');
-    text(rt, &line[..colon])?;
-    text(rt, b":")?;
-    let start = behind(line, colon, b':');
-    let f = family(line, start);
-    let second = behind(line, start, b'/');
-    let first = signed(line, second);
-    let last = signed(line, first.end);
-    let third = behind(line, second, b'/');
+    let (label, marked) = cut(line, b':');
+    text(rt, label)?;
+    print!(rt; ":")?;
+    let first = behind(marked, b':');
+    let second = behind(first, b'/');
+    let third = behind(second, b'/');
+    let mut distances = Numbers::of(second);
+    let from = signed(&mut distances);
+    let to = signed(&mut distances);
     let mut counts = [0u8; MOST];
-    let lent = list(line, behind(line, third, b'/'), &mut counts);
+    let lent = Numbers::of(behind(third, b'/')).list(&mut counts);
+    let f = family(first);
     let lists = families::only_counts(&counts[..lent]);
-    jumps(rt, first.value, last.value, f, lists, &line[third..])?;
-    end_line(rt)
-}
-
-fn cases(rt: &impl Print, s: &[u8]) -> io::Result<()> {
-    let mut at = 0;
-    while at < s.len() {
-        let end = until(s, at, b'\n');
-        one_case(rt, &s[at..end])?;
-        if end == s.len() {
-            return Ok(());
-        }
-        at = end + 1;
+    // The last behind the loop: it is met even where it lies below the first.
+    for offset in from..to {
+        one_jump(rt, offset, f, lists, third)?;
     }
-    Ok(())
-}
-
-fn file<R: Files + Print>(rt: &R, name: &str) -> io::Result<()> {
-    let mut input = [0u8; ROOM];
-    let read = test_support::read_file(rt, name.as_bytes(), &mut input)?;
-    cases(rt, &input[..read])
+    one_jump(rt, to, f, lists, third)?;
+    println!(rt;)
 }
 
 fn main(rt: HostRuntime) -> io::Result<()> {
-    // The first is the program's own name.
-    for name in env::args(&rt)?.skip(1) {
-        file(&rt, name.as_str())?;
-    }
-    Ok(())
+    each_case(&rt, |line| one_case(&rt, line))
 }

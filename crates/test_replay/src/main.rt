@@ -13,17 +13,11 @@
 // every kind. `editions`: the same of kind 4 and its editions. `derangements`: kind 7.
 #![tactic(auto)]
 
-ghost use Rattle.std.specs.Prelude.{◌≤◌, length};
-
 use basics::LONGEST_OBJECT;
 use families::{Family, Lists};
-use replay::Replayed;
-use std::rt::Files;
-use std::{env, io};
-use test_support::{behind, bytes, decimal, end_line, list, text, until, wide_list, within};
-
-// As much of a file as is read.
-const ROOM: usize = 65536;
+use std::io;
+use test_families::family;
+use test_support::{Numbers, behind, bytes, cut, each_case, text, within};
 
 // The most calls of a case.
 const MOST: usize = 100;
@@ -34,149 +28,88 @@ const LONGEST_TRAIL: usize = 4096;
 // What a buffer holds before the calls.
 const UNWRITTEN: u8 = 255;
 
+// A case's label, its calls with a rank beside each, its family and the lists lent beside it.
+#[derive(Clone, Copy)]
+struct Case<'a> {
+    label: &'a [u8],
+    calls: &'a [u8],
+    ranks: &'a [u64],
+    family: Family,
+    lists: Lists<'a>,
+}
+
 // Replays, and prints what is left in the buffers.
 fn show<'a>(
     rt: &impl Print,
-    label: &[u8],
-    calls: &[u8],
-    ranks: &[u64],
-    f: Family,
-    lists: Lists<'a>,
+    case: Case<'a>,
     object: &mut [u8],
     answers: &mut [u8],
     trail: &mut [u8],
 ) -> io::Result<()> {
-    listings::fill_with(answers, UNWRITTEN);
-    listings::fill_with(trail, UNWRITTEN);
-    text(rt, label)?;
-    match replay::replay(calls, ranks, f, lists, object, answers, trail) {
-        Replayed::Ran => text(rt, b": ran")?,
-        Replayed::Misfit => text(rt, b": misfit")?,
+    text(rt, case.label)?;
+    let replayed = replay::replay(
+        case.calls,
+        case.ranks,
+        case.family,
+        case.lists,
+        object,
+        answers,
+        trail,
+    );
+    match replayed {
+        Ok(()) => print!(rt; ": ran")?,
+        Err(_) => print!(rt; ": misfit")?,
     }
-    text(rt, b", answers")?;
+    print!(rt; ", answers")?;
     bytes(rt, answers)?;
-    text(rt, b", trail")?;
+    print!(rt; ", trail")?;
     bytes(rt, trail)?;
-    text(rt, b", object")?;
+    print!(rt; ", object")?;
     bytes(rt, object)?;
-    end_line(rt)
+    println!(rt;)
 }
 
-// The last section: the buffers of the record are lent.
-fn record<'a>(
-    rt: &impl Print,
-    label: &[u8],
-    calls: &[u8],
-    ranks: &[u64],
-    f: Family,
-    lists: Lists<'a>,
-    object: &mut [u8],
-    line: &[u8],
-    start: usize,
-) -> io::Result<()> {
-    let answered = decimal(line, start);
-    let mut answers = [0u8; MOST];
-    let a = within(answered.value, &answers);
-    let mut trail = [0u8; LONGEST_TRAIL];
-    let t = within(decimal(line, answered.end).value, &trail);
+// The buffers of the record are as long as the last section says.
+fn record<'a>(rt: &impl Print, case: Case<'a>, object: &mut [u8], last: &[u8]) -> io::Result<()> {
+    let mut lengths = Numbers::of(last);
+    let mut answers = [UNWRITTEN; MOST];
+    let answered = within(lengths.number(), &answers);
+    let mut trail = [UNWRITTEN; LONGEST_TRAIL];
+    let kept = within(lengths.number(), &trail);
     show(
         rt,
-        label,
-        calls,
-        ranks,
-        f,
-        lists,
+        case,
         object,
-        &mut answers[..a],
-        &mut trail[..t],
-    )
-}
-
-// The family that a section says.
-fn family(line: &[u8], start: usize) -> Family {
-    let kind = decimal(line, start);
-    let n = decimal(line, kind.end);
-    let k = decimal(line, n.end);
-    let floor = decimal(line, k.end);
-    let edition = decimal(line, floor.end);
-    Family {
-        floor: floor.value,
-        edition: edition.value,
-        ..families::plain_family(kind.value, n.value, k.value)
-    }
-}
-
-// The sections from the family on: the object is read, then the lists lent beside the family.
-fn lend(
-    rt: &impl Print,
-    label: &[u8],
-    calls: &[u8],
-    ranks: &[u64],
-    line: &[u8],
-    start: usize,
-) -> io::Result<()>
-    requires { start ≤ length line.now }
-{
-    let first = behind(line, start, b'/');
-    let second = behind(line, first, b'/');
-    let mut object = [0u8; LONGEST_OBJECT];
-    let places = list(line, first, &mut object);
-    let mut counts = [0u8; LONGEST_OBJECT];
-    let lent = list(line, second, &mut counts);
-    record(
-        rt,
-        label,
-        calls,
-        ranks,
-        family(line, start),
-        families::only_counts(&counts[..lent]),
-        &mut object[..places],
-        line,
-        behind(line, second, b'/'),
+        &mut answers[..answered],
+        &mut trail[..kept],
     )
 }
 
 fn one_case(rt: &impl Print, line: &[u8]) -> io::Result<()> {
-    let colon = until(line, 0, b':');
-    let first = behind(line, colon, b':');
-    let second = behind(line, first, b'/');
+    let (label, marked) = cut(line, b':');
+    let first = behind(marked, b':');
+    let second = behind(first, b'/');
+    let third = behind(second, b'/');
+    let fourth = behind(third, b'/');
+    let fifth = behind(fourth, b'/');
     let mut calls = [0u8; MOST];
-    let called = list(line, first, &mut calls);
+    let called = Numbers::of(first).list(&mut calls);
     let mut ranks = [0u64; MOST];
-    let ranked = wide_list(line, second, &mut ranks);
-    lend(
-        rt,
-        &line[..colon],
-        &calls[..called],
-        &ranks[..ranked],
-        line,
-        behind(line, second, b'/'),
-    )
-}
-
-fn cases(rt: &impl Print, s: &[u8]) -> io::Result<()> {
-    let mut at = 0;
-    while at < s.len() {
-        let end = until(s, at, b'\n');
-        one_case(rt, &s[at..end])?;
-        if end == s.len() {
-            return Ok(());
-        }
-        at = end + 1;
-    }
-    Ok(())
-}
-
-fn file<R: Files + Print>(rt: &R, name: &str) -> io::Result<()> {
-    let mut input = [0u8; ROOM];
-    let read = test_support::read_file(rt, name.as_bytes(), &mut input)?;
-    cases(rt, &input[..read])
+    let ranked = Numbers::of(second).wide_list(&mut ranks);
+    let mut object = [0u8; LONGEST_OBJECT];
+    let places = Numbers::of(fourth).list(&mut object);
+    let mut counts = [0u8; LONGEST_OBJECT];
+    let lent = Numbers::of(fifth).list(&mut counts);
+    let case = Case {
+        label,
+        calls: &calls[..called],
+        ranks: &ranks[..ranked],
+        family: family(third),
+        lists: families::only_counts(&counts[..lent]),
+    };
+    record(rt, case, &mut object[..places], behind(fifth, b'/'))
 }
 
 fn main(rt: HostRuntime) -> io::Result<()> {
-    // The first is the program's own name.
-    for name in env::args(&rt)?.skip(1) {
-        file(&rt, name.as_str())?;
-    }
-    Ok(())
+    each_case(&rt, |line| one_case(&rt, line))
 }

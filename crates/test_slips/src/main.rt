@@ -11,10 +11,10 @@ ghost use Rattle.grammar.specs.Sizes.{longest_slip};
 ghost use Rattle.slip.specs.Sizes.{largest};
 
 use grammar::LONGEST_SLIP;
-use slip::{LARGEST, Rendered};
+use slip::LARGEST;
 use std::rt::Files;
 use std::{env, io};
-use test_support::{digest, end_line, lines, number, read_file, text};
+use test_support::{digest, lines, read_file, text};
 
 // One byte more than the longest slip, by which a longer input is seen.
 const INPUT: usize = LONGEST_SLIP + 1;
@@ -35,11 +35,7 @@ fn room_to_write() -> [u8; LARGEST]
 // The text of one slip.
 fn show(rt: &impl Print, name: &[u8], s: &[u8]) -> io::Result<()> {
     text(rt, name)?;
-    text(rt, b": bytes")?;
-    number(rt, s.len() as u64)?;
-    text(rt, b", digest")?;
-    number(rt, digest(0, s))?;
-    end_line(rt)?;
+    println!(rt; ": bytes {}, digest {}", s.len(), digest(0, s))?;
     if s.len() < 600 {
         lines(rt, name, s)?;
     }
@@ -53,8 +49,8 @@ fn one_slip<R: Files + Print>(rt: &R, name: &str, out: &mut [u8]) -> io::Result<
     let mut input = room_to_read();
     let read = read_file(rt, name.as_bytes(), &mut input)?;
     match slip::render(&input[..read], out) {
-        Rendered::Text(end) => show(rt, name.as_bytes(), &out[..end]),
-        Rendered::Short => text(rt, b"no room for the text\n"),
+        Ok(end) => show(rt, name.as_bytes(), &out[..end]),
+        Err(_) => println!(rt; "no room for the text"),
     }
 }
 

@@ -1,2 +1,1 @@
 -- What a count of a part comes to.
-mod Parts

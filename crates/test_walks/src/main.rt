@@ -21,20 +21,16 @@
 // `editions`: the same of kind 4 and its editions. `derangements`: kind 7.
 #![tactic(auto)]
 
-ghost use Rattle.std.specs.Prelude.{◌≡◌, ◌≤◌, length, take};
+ghost use Rattle.std.specs.Prelude.{◌≤◌, length};
 
 use basics::LONGEST_OBJECT;
-use families::{Family, Lists, Ranked, codes};
-use std::rt::Files;
-use std::{env, io};
+use families::{Lists, Refusal, codes};
+use std::io;
+use test_families::family;
 use test_support::{
-    behind, bytes, decimal, digest, end_line, list, mixed, number, text, until, wide, wide_list,
-    within,
+    Numbers, behind, bytes, cut, digest, each_case, mixed, text, within,
 };
 use walk::{Stride, Walk};
-
-// As much of a file as is read.
-const ROOM: usize = 65536;
 
 // The most bytes at a start, more than any object has; the most steps of a leg, and the most room for answers.
 const MOST: usize = 100;
@@ -42,13 +38,10 @@ const MOST: usize = 100;
 // What the room for answers holds before the steps.
 const UNWRITTEN: u8 = 255;
 
-fn ranked(rt: &impl Print, answer: Ranked) -> io::Result<()> {
+fn ranked(rt: &impl Print, answer: Result<u64, Refusal>) -> io::Result<()> {
     match answer {
-        Ranked::Rank(r) => number(rt, r),
-        Ranked::Refused(q) => {
-            text(rt, b" refused")?;
-            number(rt, wide(q))
-        }
+        Ok(rank) => print!(rt; " {rank}"),
+        Err(refusal) => print!(rt; " refused {}", u8::from(refusal)),
     }
 }
 
@@ -60,23 +53,17 @@ fn summed(rt: &impl Print, walk: Walk) -> io::Result<()> {
         mixed(mixed(mixed(mixed(0, f.kind), f.n), f.k), f.floor),
         f.edition,
     );
-    text(rt, b" digest")?;
-    number(
-        rt,
-        digest(mixed(mixed(family, walk.len), walk.number), &array),
-    )
+    let sum = digest(mixed(mixed(family, walk.len), walk.number), &array);
+    print!(rt; " digest {sum}")
 }
 
 // What a walk keeps, the bytes where its array has so many.
 fn kept(rt: &impl Print, walk: Walk) -> io::Result<()> {
     let array = walk.bytes;
     let len = within(walk.len, &array);
-    text(rt, b"; length")?;
-    number(rt, walk.len)?;
-    text(rt, b", number")?;
-    number(rt, walk.number)?;
+    print!(rt; "; length {}, number {}", walk.len, walk.number)?;
     if walk.len == len as u64 {
-        text(rt, b", bytes")?;
+        print!(rt; ", bytes")?;
         bytes(rt, &array[..len])?;
     }
     Ok(())
@@ -85,9 +72,10 @@ fn kept(rt: &impl Print, walk: Walk) -> io::Result<()> {
 // A step one way.
 fn stepped<'a>(walk: Walk, lists: Lists<'a>, on: bool) -> Stride {
     if on {
-        return walk.next(lists);
+        walk.next(lists)
+    } else {
+        walk.previous(lists)
     }
-    walk.previous(lists)
 }
 
 // One step, and what is printed of it.
@@ -101,12 +89,11 @@ fn one_step<'a, 'b>(
     let stride = stepped(walk, lists, on);
     let answer = stride.answer;
     let after = stride.walk;
-    number(rt, wide(codes::stepped(answer)))?;
     let array = after.bytes;
     let len = within(after.len, &array);
-    number(rt, after.number)?;
+    print!(rt; " {} {}", codes::stepped(answer), after.number)?;
     ranked(rt, families::rank(after.family, first, &array[..len]))?;
-    text(rt, b",")?;
+    print!(rt; ",")?;
     Ok(after)
 }
 
@@ -119,11 +106,8 @@ fn steps<'a, 'b>(
     on: &[bool],
 ) -> io::Result<Walk> {
     let mut walk = begun;
-    let mut i = 0;
-    while i < on.len() {
-        let after = one_step(rt, walk, first, lists, on[i])?;
-        walk = after;
-        i += 1;
+    for way in on {
+        walk = one_step(rt, walk, first, lists, *way)?;
     }
     Ok(walk)
 }
@@ -137,93 +121,71 @@ fn gone<'a, 'b>(
     on: &[bool],
     answers: &mut [u8],
 ) -> io::Result<Walk> {
-    text(rt, b";")?;
+    print!(rt; ";")?;
     let after = steps(rt, walk, first, lists, on)?;
     summed(rt, after)?;
     let left = walk.run(lists, on, answers);
-    text(rt, b", run")?;
+    print!(rt; ", run")?;
     bytes(rt, answers)?;
-    text(rt, b",")?;
+    print!(rt; ",")?;
     summed(rt, left)?;
     Ok(after)
 }
 
-// Reads the steps from here to the leg's end, as far as there is room, and answers how many.
-fn ways(leg: &[u8], start: usize, on: &mut [bool]) -> usize
-    ensures upper_bound { result ≤ length on.new }
-    ensures value { result ≡ length (take result on.new) }
+// Reads the steps from here on, as far as there is room, and answers how many.
+fn ways(steps: &mut Numbers, on: &mut [bool]) -> usize
+    ensures { result ≤ length on.new }
 {
-    let mut len = 0;
-    let mut at = start;
-    while len < on.len() && at < leg.len() {
-        let d = decimal(leg, at);
-        on[len] = d.value == 1;
-        at = d.end;
-        len += 1;
+    for (i, way) in on.iter_mut().enumerate() {
+        if steps.is_empty() {
+            return i;
+        }
+        *way = steps.number() == 1;
     }
-    len
+    on.len()
 }
 
 fn one_leg<'a>(rt: &impl Print, walk: Walk, first: Lists<'a>, leg: &[u8]) -> io::Result<Walk> {
     let mut counts = [0u8; LONGEST_OBJECT];
-    let lent = list(leg, 0, &mut counts);
+    let lent = Numbers::of(leg).list(&mut counts);
     let lists = families::only_counts(&counts[..lent]);
-    let room = decimal(leg, behind(leg, 0, b'/'));
-    let mut on = [false; MOST];
-    let many = ways(leg, room.end, &mut on);
+    let mut steps = Numbers::of(behind(leg, b'/'));
     let mut answers = [UNWRITTEN; MOST];
-    let a = within(room.value, &answers);
-    gone(rt, walk, first, lists, &on[..many], &mut answers[..a])
+    let room = within(steps.number(), &answers);
+    let mut on = [false; MOST];
+    let many = ways(&mut steps, &mut on);
+    gone(
+        rt,
+        walk,
+        first,
+        lists,
+        &on[..many],
+        &mut answers[..room],
+    )
 }
 
-fn legs<'a>(
-    rt: &impl Print,
-    begun: Walk,
-    first: Lists<'a>,
-    line: &[u8],
-    start: usize,
-) -> io::Result<Walk>
-    requires { start ≤ length line.now }
-{
+// Every leg, the next one behind a semicolon.
+fn legs<'a>(rt: &impl Print, begun: Walk, first: Lists<'a>, line: &[u8]) -> io::Result<Walk> {
     let mut walk = begun;
-    let mut at = start;
-    while at < line.len() {
-        let end = until(line, at, b';');
-        let after = one_leg(rt, walk, first, &line[at..end])?;
-        if line.len() - end < 2 {
-            return Ok(after);
-        }
-        walk = after;
-        at = end + 2;
+    let mut rest = line;
+    while !rest.is_empty() {
+        let (leg, behind_leg) = cut(rest, b';');
+        walk = one_leg(rt, walk, first, leg)?;
+        rest = behind(behind_leg, b';');
     }
     Ok(walk)
 }
 
-// The family that a section says.
-fn family(line: &[u8], start: usize) -> Family {
-    let kind = decimal(line, start);
-    let n = decimal(line, kind.end);
-    let k = decimal(line, n.end);
-    let floor = decimal(line, k.end);
-    let edition = decimal(line, floor.end);
-    Family {
-        floor: floor.value,
-        edition: edition.value,
-        ..families::plain_family(kind.value, n.value, k.value)
-    }
-}
-
 // The walk that the head of a line says.
 fn begun<'a>(rt: &impl Print, head: &[u8], first: Lists<'a>) -> io::Result<Walk> {
-    let start = behind(head, 0, b':');
-    let f = family(head, start);
-    let second = behind(head, start, b'/');
-    let third = behind(head, second, b'/');
+    let f = family(head);
+    let second = behind(head, b'/');
+    let third = behind(second, b'/');
     let mut said = [0u64; 2];
-    if wide_list(head, second, &mut said) == 2 {
+    if Numbers::of(second).wide_list(&mut said) == 2 {
         let mut array = [0u8; LONGEST_OBJECT];
-        list(head, third, &mut array);
-        text(rt, b" made up")?;
+        Numbers::of(third).list(&mut array);
+        print!(rt; " made up")?;
         return Ok(Walk {
             family: f,
             bytes: array,
@@ -232,51 +194,28 @@ fn begun<'a>(rt: &impl Print, head: &[u8], first: Lists<'a>) -> io::Result<Walk>
         });
     }
     let mut object = [0u8; MOST];
-    let places = list(head, third, &mut object);
+    let places = Numbers::of(third).list(&mut object);
     let started = Walk::start(f, first, &object[..places]);
     let answer = started.answer;
-    text(rt, b" RANK")?;
+    print!(rt; " RANK")?;
     ranked(rt, answer)?;
     Ok(started.walk)
 }
 
 fn one_case(rt: &impl Print, line: &[u8]) -> io::Result<()> {
-    let colon = until(line, 0, b':');
-    let end = until(line, colon, b';');
-    let start = behind(line, colon, b';');
+    let (label, marked) = cut(line, b':');
+    let (head, legs_marked) = cut(marked, b';');
+    let line_legs = behind(legs_marked, b';');
     let mut counts = [0u8; LONGEST_OBJECT];
-    let lent = list(line, start, &mut counts);
+    let lent = Numbers::of(line_legs).list(&mut counts);
     let first = families::only_counts(&counts[..lent]);
-    text(rt, &line[..colon])?;
-    text(rt, b":")?;
-    let walk = begun(rt, &line[..end], first)?;
-    kept(rt, legs(rt, walk, first, line, start)?)?;
-    end_line(rt)
-}
-
-fn cases(rt: &impl Print, s: &[u8]) -> io::Result<()> {
-    let mut at = 0;
-    while at < s.len() {
-        let end = until(s, at, b'\n');
-        one_case(rt, &s[at..end])?;
-        if end == s.len() {
-            return Ok(());
-        }
-        at = end + 1;
-    }
-    Ok(())
-}
-
-fn file<R: Files + Print>(rt: &R, name: &str) -> io::Result<()> {
-    let mut input = [0u8; ROOM];
-    let read = test_support::read_file(rt, name.as_bytes(), &mut input)?;
-    cases(rt, &input[..read])
+    text(rt, label)?;
+    print!(rt; ":")?;
+    let walk = begun(rt, behind(head, b':'), first)?;
+    kept(rt, legs(rt, walk, first, line_legs)?)?;
+    println!(rt;)
 }
 
 fn main(rt: HostRuntime) -> io::Result<()> {
-    // The first is the program's own name.
-    for name in env::args(&rt)?.skip(1) {
-        file(&rt, name.as_str())?;
-    }
-    Ok(())
+    each_case(&rt, |line| one_case(&rt, line))
 }
