@@ -6,8 +6,7 @@
 // objects of 8 bytes are strings filtered by the table's words and sorted by a comparison; longer ones follow Loehr's recursion.
 #![tactic(auto)]
 
-ghost use Rattle.std.specs.Prelude.{◌≡◌, ◌≤◌, ◌+◌, length};
-ghost use Rattle.grammar.specs.Sizes.{longest_slip};
+ghost use Rattle.std.specs.Prelude.{◌≤◌, length};
 ghost use Rattle.slip.specs.Sizes.{largest};
 
 use grammar::LONGEST_SLIP;
@@ -18,19 +17,6 @@ use test_support::{digest, lines, read_file, text};
 
 // One byte more than the longest slip, by which a longer input is seen.
 const INPUT: usize = LONGEST_SLIP + 1;
-
-fn room_to_read() -> [u8; INPUT]
-    ensures { longest_slip + 1 ≡ length result }
-{
-    [0u8; INPUT]
-}
-
-// Room for the longest text.
-fn room_to_write() -> [u8; LARGEST]
-    ensures { largest ≡ length result }
-{
-    [0u8; LARGEST]
-}
 
 // The text of one slip.
 fn show(rt: &impl Print, name: &[u8], s: &[u8]) -> io::Result<()> {
@@ -46,7 +32,7 @@ fn show(rt: &impl Print, name: &[u8], s: &[u8]) -> io::Result<()> {
 fn one_slip<R: Files + Print>(rt: &R, name: &str, out: &mut [u8]) -> io::Result<()>
     requires { largest ≤ length out.old }
 {
-    let mut input = room_to_read();
+    let mut input = [0u8; INPUT];
     let read = read_file(rt, name.as_bytes(), &mut input)?;
     match slip::render(&input[..read], out) {
         Ok(end) => show(rt, name.as_bytes(), &out[..end]),
@@ -55,7 +41,7 @@ fn one_slip<R: Files + Print>(rt: &R, name: &str, out: &mut [u8]) -> io::Result<
 }
 
 fn main(rt: HostRuntime) -> io::Result<()> {
-    let mut out = room_to_write();
+    let mut out = [0u8; LARGEST];
     // The first argument is the program's name.
     for name in env::args(&rt)?.skip(1) {
         one_slip(&rt, &name, &mut out)?;
