@@ -13,7 +13,7 @@ mod lines;
 pub use limits::{FAMILY_WIDTH, LONGEST_SLIP, MOST_COUNTS};
 use lines::number_at;
 
-// The numbers of a slip's first line; start is the number that the first object gets, 0 or 1.
+// The numbers of a slip's first line; start is the number that the first object gets, 0 or 1. The kind stays a number: a well-formed slip may name one that no family has.
 #[derive(Clone, Copy)]
 pub struct Head {
     pub kind: u64,

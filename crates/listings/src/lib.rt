@@ -9,6 +9,7 @@ ghost use Rattle.listings.specs.Bytes.{same as same_bytes};
 use basics::LONGEST_OBJECT;
 
 // What NEXT and PREVIOUS answer: the object was replaced by its neighbour, or there is none and no byte changed.
+// An enum of its own, and no Option of nothing: the scope names this form.
 #[derive(Clone, Copy, Debug, PartialEq, Eq)]
 pub enum Step {
     Moved,
