@@ -1,13 +1,14 @@
 -- What an answer about a count tells, and which answer a count has: both directions of `fits`.
 -- Assumes nothing.
 use mathlib.Core.Path.{◌≡◌, refl, sym, ◌∙◌}
-use mathlib.Core.Bool.{Bool, true, false, ◌&&◌, cond, and-false}
+use mathlib.Core.Bool.{Bool, true, false, cond}
 use mathlib.Core.Logic.{◌⊎◌, inl, inr}
 use Prim.Native.Nat.{ℕ, ◌≤◌, ◌<◌, ◌^◌}
 use native.Mathlib.Omega.{arith}
-use lib.Dec.{leb, ltb}
-use borrow.Author.Tests.{lt-ltb, le-ltb, ltb-true, ltb-false, le-leb, lt-leb}
-use Rattle.std.specs.Prelude.{Result, Ok, Err}
+use lib.Dec.{ltb}
+use borrow.Author.Tests.{lt-ltb, le-ltb, ltb-true, ltb-false}
+use Rattle.std.specs.Prelude.{Option, Some, None, Result, Ok, Err, SomeIff, unwrap_or}
+use Rattle.std.specs.Option.{ok_or}
 use Rattle.counting.specs.declared.CountError.{CountError}
 use Rattle.counting.specs.declared.CountError.TheVariants.{TooLarge, Outside}
 use Rattle.counting.specs.Answers.{fits, if_fits}
@@ -64,31 +65,15 @@ pub not_exact : (v : ℕ) {r : Result ℕ CountError} {e : CountError} → r ≡
 unfolding fits
 not_exact v is err = ltb-false v (2 ^ 64) (not_picked (ltb v (2 ^ 64)) v (sym is ∙ err))
 
--- where a number is too large, a larger one is too
-pub fits_more : {v w : ℕ} {e : CountError} → Err e ≡ fits v → v ≤ w → Err e ≡ fits w
-fits_more {v} {w} is h = let large = not_exact v refl (sym is) in is ∙ fits_large v large ∙ sym (fits_large w (omega arith))
+-- a number that is there where it is below 2^64 makes the answer
+pub fits_or : (v : ℕ) (r : Option ℕ) → SomeIff r (v < 2 ^ 64) v → ok_or r TooLarge ≡ fits v
+fits_or v None large = sym (fits_large v (omega arith))
+fits_or v (Some x) h = rw h.1 (sym (fits_small v h.0))
+
+-- and the plain number
+pub fits_or_none : (v : ℕ) (r : Option ℕ) → SomeIff r (v < 2 ^ 64) v → unwrap_or r 0 ≡ if_fits v
+fits_or_none v None large = sym (if_large (omega arith))
+fits_or_none v (Some x) h = h.1 ∙ sym (if_small h.0)
 
 pub within_in : (t : Bool) (a : Result ℕ CountError) → t ≡ true → cond t a (Err Outside) ≡ a
 within_in t a e = rw e
-
-pub within_out : (t : Bool) (a : Result ℕ CountError) → t ≡ false → cond t a (Err Outside) ≡ Err Outside
-within_out t a e = rw e
-
--- the answers of a function within the limits, from what it returns
-
-pub exactly_within : {t : Bool} {v x : ℕ} → t ≡ true → x ≡ v → v < 2 ^ 64 → Ok x ≡ cond t (fits v) (Err Outside)
-exactly_within {t} {v} e same h = rw (same, within_in t (fits v) e) (sym (fits_small v h))
-
-pub large_within : {t : Bool} {v : ℕ} → t ≡ true → 2 ^ 64 ≤ v → Err TooLarge ≡ cond t (fits v) (Err Outside)
-large_within {t} {v} e h = sym (within_in t (fits v) e ∙ fits_large v h)
-
--- two arguments with one limit
-
-pub both_in : (n k m : ℕ) → n ≤ m → k ≤ m → leb n m && leb k m ≡ true
-both_in n k m h h' = rw (le-leb n m h, le-leb k m h')
-
-pub first_out : (n k m : ℕ) → m < n → leb n m && leb k m ≡ false
-first_out n k m h = rw (lt-leb n m h)
-
-pub second_out : (n k m : ℕ) → m < k → leb n m && leb k m ≡ false
-second_out n k m h = rw (lt-leb k m h) (and-false (leb n m))

@@ -1,6 +1,5 @@
 -- `counting::product::of_binomials` meets its contract: each letter keeps the number of words, and what passes 2^64 on the way is at most the whole count.
 use Rattle.std.proofs.Common.{arith}
-use Rattle.std.proofs.lemmas.Result.{err_from_is_err_and}
 use Rattle.counting.proofs.Products.{letter, no_letter, short, factor_stop, product_stop, letter_more, all_letters}
 use Rattle.counting.proofs.product.of_binomials.Goals as goal
 
@@ -14,17 +13,13 @@ pub ways_out_of-requires : goal.ways_out_of-requires
 ways_out_of-requires c = short (letter c.next.new.self.iter.rest.now c.loop-c.invariant c.in-Some.ensures.steps c.wide-places.ensures) c.requires
 
 pub returns-in_err-ways_out_of : goal.returns-in_err-ways_out_of
-returns-in_err-ways_out_of c =
-    let p = err_from_is_err_and c.from_residual.result c.from_residual.ensures.1 in
-    rw (p.1, p.2) (factor_stop (letter c.next.new.self.iter.rest.now c.loop-c.invariant c.in-Some.ensures.steps c.wide-places.ensures) c.in_err-ways_out_of.ensures)
+returns-in_err-ways_out_of c = rw c.from_residual.ensures (factor_stop (letter c.next.new.self.iter.rest.now c.loop-c.invariant c.in-Some.ensures.steps c.wide-places.ensures) c.in_err-ways_out_of.ensures)
 
 pub returns-in_err-words : goal.returns-in_err-words
-returns-in_err-words c =
-    let p = err_from_is_err_and c.from_residual-in_err-words.result c.from_residual-in_err-words.ensures.1 in
-    rw (p.1, p.2) (product_stop (letter c.next.new.self.iter.rest.now c.loop-c.invariant c.in-Some.ensures.steps c.wide-places.ensures) c.in_ok-ways_out_of.ensures c.in_err-words.ensures)
+returns-in_err-words c = rw c.from_residual-in_err-words.ensures (product_stop (letter c.next.new.self.iter.rest.now c.loop-c.invariant c.in-Some.ensures.steps c.wide-places.ensures) c.in_ok-ways_out_of.ensures.1 c.in_err-words.ensures)
 
 pub loop-c-preserved : goal.loop-c-preserved
-loop-c-preserved c = letter_more (letter c.next.new.self.iter.rest.now c.loop-c.invariant c.in-Some.ensures.steps c.wide-places.ensures) c.in_ok-ways_out_of.ensures c.in_ok-words.ensures
+loop-c-preserved c = letter_more (letter c.next.new.self.iter.rest.now c.loop-c.invariant c.in-Some.ensures.steps c.wide-places.ensures) c.in_ok-ways_out_of.ensures.1 c.in_ok-words.ensures
 
 pub returns : goal.returns
 returns c = all_letters c.loop-c.invariant c.in-None.ensures.steps.0
