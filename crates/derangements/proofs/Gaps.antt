@@ -132,9 +132,8 @@ pub label_small : (n : ℕ) (x l : Bytes) (g : ℕ → ℕ) (i : ℕ) → 2 ≤ 
 label_small n x l g i two long o h e =
     let first : Bytes = take (n - 2) x in
     let within : length (map g (take i first)) ≡ i = mapped_long g i first (omega arith) in
-    let same : get_or l i 0 ≡ get_or first i 0 =
-    ap (λ v. get_or v i 0) e ∙ get_or-append_right (map g (take i first)) (drop i first) i 0 (omega arith) ∙ ap (λ k. get_or (drop i first) k 0) (omega arith) ∙ head-drop first i 0
-    in
+    let behind : get_or (map g (take i first) ++ drop i first) i 0 ≡ get_or (drop i first) 0 0 = get_or-append_right (map g (take i first)) (drop i first) i 0 (omega arith) ∙ ap (λ k. get_or (drop i first) k 0) (omega arith) in
+    let same : get_or l i 0 ≡ get_or first i 0 = ap (λ v. get_or v i 0) e ∙ behind ∙ head-drop first i 0 in
     let at : i + 1 - 1 ≡ i = omega arith in
     let label = (deranged (n - 2) first o).by.values (i + 1) (omega (arith, length-take-le (n - 2) x (omega arith))) in
     omega (arith, same, label, ap (λ k. get_or first k 0) at)
