@@ -1,6 +1,6 @@
 -- What a call knows when it hands a family to its kind: the family's listing, order, objects and count as the kind's row says them.
 -- Assumes nothing.
-use mathlib.Core.Path.{◌≡◌, refl, sym, ◌∙◌, subst}
+use mathlib.Core.Path.{◌≡◌, refl, sym, ◌∙◌, ap, subst}
 use mathlib.Core.Bool.{Bool, true, not, ◌&&◌, ◌||◌}
 use mathlib.Core.Logic.{⊎_elim}
 use Prim.Native.Nat.{ℕ, zero, suc, ◌*◌, ◌≤◌, ◌<◌}
@@ -15,10 +15,14 @@ use Rattle.basics.proofs.Bools.{and-true, or_cases}
 use Rattle.listings.specs.Bytes.{Bytes}
 use Rattle.listings.specs.Rows.{Row}
 use Rattle.families.specs.declared.Family.{Family}
+use Rattle.families.specs.declared.admitted.Admitted.{Admitted}
+use Rattle.families.specs.declared.kind.Kind.{Kind}
 use Rattle.families.specs.Table.{Lent, no_row, table, last_kind}
 use Rattle.families.specs.Families.{row, is_kind, in_table, allowed, object_length, is_object, comes_before, listing, count_of}
+use Rattle.families.specs.Inner.Admissions.{lists_of}
 use Rattle.families.specs.Inner.Bounds.{most_n, most_k}
-use Rattle.families.proofs.FamilyFacts.{lawful, object-allowed, bounded, fitting, count_is, has_object_lem, short}
+use Rattle.families.specs.Inner.Kinds.{kind_number}
+use Rattle.families.proofs.FamilyFacts.{lawful, bounded, fitting, count_is, has_object_lem, short}
 
 -- the family's facts as a row says them
 pub record Handed (f : Family) (b : Lent) (r : Row) : Type 0 where
@@ -80,17 +84,6 @@ module _ (kind : ℕ) (f : Family) (b : Lent) (x : Bytes) (e : f.kind ≡ kind) 
       let t = handed kind f b e a in
       subst (λ (k : ℕ). Handed f b (row_at kind (with_k f k) b)) (sym (h ∙ t.long ∙ is-k)) t
 
-  -- bytes that are an object
-  module _ (o : is_object f b x ≡ true) where
-    pub object : Handed f b (row_at kind f b)
-    object = handed kind f b e (object-allowed f b x o)
-
-    pub object_n : (row_at kind f b).object_length ≡ f.n → Handed f b (row_at kind (with_n f (length x)) b)
-    object_n is-n = long_n (object-allowed f b x o) ((lawful f b).long x o) is-n
-
-    pub object_k : (row_at kind f b).object_length ≡ f.k → Handed f b (row_at kind (with_k f (length x)) b)
-    object_k is-k = long_k (object-allowed f b x o) ((lawful f b).long x o) is-k
-
 -- what the columns say in plain facts
 
 -- the first of two bounds
@@ -144,3 +137,51 @@ other_than n m e = eqb-false n m (not-true (eqb n m) e)
 pub some_parts : (k f : ℕ) → 1 ≤ f → ltb 0 (k * f) ≡ ltb 0 k
 some_parts zero f h = rw zero-mul
 some_parts (suc k) f h = rw (lt-ltb 0 (suc k * f) (omega (arith, suc-mul k f)), lt-ltb 0 (suc k) (omega arith))
+
+-- a family of a kind's number is of a kind
+pub named_kind : (f : Family) (kind : Kind) → f.kind ≡ kind_number kind → is_kind f ≡ true
+unfolding is_kind
+named_kind f Kind.Subsets e = rw e
+named_kind f Kind.Anagrams e = rw e
+named_kind f Kind.Permutations e = rw e
+named_kind f Kind.SetPartitions e = rw e
+named_kind f Kind.IntegerPartitions e = rw e
+named_kind f Kind.DyckWords e = rw e
+named_kind f Kind.Derangements e = rw e
+
+pub kind_limits : (f : Family) (b : Lent) (kind : Kind) → f.kind ≡ kind_number kind → in_table f b ≡ (leb f.n (most_n (kind_number kind)) && leb f.k (most_k (kind_number kind)))
+kind_limits f b kind e = two_limits f b (named_kind f kind e) ∙ ap (λ (number : ℕ). leb f.n (most_n number) && leb f.k (most_k number)) e
+
+-- only anagrams are of kind 2
+pub other_kind : (kind : Kind) → (kind ≡ Kind.Anagrams → ⊥) → kind_number kind ≡ 2 → ⊥
+other_kind Kind.Subsets other e = omega (arith, e)
+other_kind Kind.Anagrams other e = other refl
+other_kind Kind.Permutations other e = omega (arith, e)
+other_kind Kind.SetPartitions other e = omega (arith, e)
+other_kind Kind.IntegerPartitions other e = omega (arith, e)
+other_kind Kind.DyckWords other e = omega (arith, e)
+other_kind Kind.Derangements other e = omega (arith, e)
+
+-- an admitted family, handed to its kind
+module _ (a : Admitted) {named kind : Kind} (known : a.family.now.kind ≡ kind_number named) (e : named ≡ kind) where
+  pub number_given : a.family.now.kind ≡ kind_number kind
+  number_given = known ∙ ap kind_number e
+
+  pub given : Handed a.family.now (lists_of a) (row_at (kind_number kind) a.family.now (lists_of a))
+  given = handed (kind_number kind) a.family.now (lists_of a) number_given a.passed
+
+  -- its functions read n or k off bytes of an object's length
+  module _ (x : Bytes) (long : length x ≡ object_length a.family.now (lists_of a)) where
+    pub given_n : (row_at (kind_number kind) a.family.now (lists_of a)).object_length ≡ a.family.now.n → Handed a.family.now (lists_of a) (row_at (kind_number kind) (with_n a.family.now (length x)) (lists_of a))
+    given_n is-n = long_n (kind_number kind) a.family.now (lists_of a) x number_given a.passed long is-n
+
+    pub given_k : (row_at (kind_number kind) a.family.now (lists_of a)).object_length ≡ a.family.now.k → Handed a.family.now (lists_of a) (row_at (kind_number kind) (with_k a.family.now (length x)) (lists_of a))
+    given_k is-k = long_k (kind_number kind) a.family.now (lists_of a) x number_given a.passed long is-k
+
+  -- or off an object
+  module _ (x : Bytes) (o : is_object a.family.now (lists_of a) x ≡ true) where
+    pub object_n : (row_at (kind_number kind) a.family.now (lists_of a)).object_length ≡ a.family.now.n → Handed a.family.now (lists_of a) (row_at (kind_number kind) (with_n a.family.now (length x)) (lists_of a))
+    object_n is-n = given_n x ((lawful a.family.now (lists_of a)).long x o) is-n
+
+    pub object_k : (row_at (kind_number kind) a.family.now (lists_of a)).object_length ≡ a.family.now.k → Handed a.family.now (lists_of a) (row_at (kind_number kind) (with_k a.family.now (length x)) (lists_of a))
+    object_k is-k = given_k x ((lawful a.family.now (lists_of a)).long x o) is-k

@@ -5,9 +5,7 @@ use mathlib.Core.Bool.{Bool, true, false, cond, ◌&&◌, false≢true}
 use mathlib.Core.Logic.{⊎_elim}
 use mathlib.Core.Option.{none, some, some-ne-none}
 use mathlib.Core.List.{List, []}
-use Prim.Native.Nat.{ℕ, zero, suc, ◌≤◌}
-use native.Mathlib.Omega.{arith}
-use native.Mathlib.Decide.{dec_le}
+use Prim.Native.Nat.{ℕ, ◌≤◌}
 use lib.Dec.{ltb, leb}
 use borrow.Author.Tests.{leb-true}
 use Rattle.basics.specs.Limits.{longest_object, floors}
@@ -62,26 +60,6 @@ pub rank_is_place : (f : Family) (b : Lent) (r : ℕ) {x : Bytes} → At (listin
 unfolding rank_of
 rank_is_place f b r h = place-is_rank (listed f b) r h
 
--- none of the numbers 1 to m, as the last arm of a match knows it
-abbrev pub NoneOf : ℕ → ℕ → Type 0
-NoneOf zero x = Unit
-NoneOf (suc m) x = NoneOf m x × (x ≡ suc m → ⊥)
-
-none_within : (m x : ℕ) → NoneOf m x → 1 ≤ x → x ≤ m → ⊥
-none_within zero x h low high = omega arith
-none_within (suc m) x h low high =
-    elim (dec_le x m) [
-      | yes less ↦ none_within m x h.0 low less
-      | no more ↦ h.1 (omega arith)
-    ]
-
--- "Question 1 now allows 1 to 7": a kind has an arm
-pub numbered : (f : Family) → is_kind f ≡ true → NoneOf last_kind f.kind → ⊥
-unfolding is_kind
-numbered f e h =
-    let p = and-true (leb 1 f.kind) (leb f.kind last_kind) e in
-    none_within last_kind f.kind h (leb-true 1 f.kind p.0) (leb-true f.kind last_kind p.1)
-
 -- what the table allows has passed the questions that are put to all
 
 module _ (f : Family) (b : Lent) where
@@ -101,9 +79,12 @@ module _ (f : Family) (b : Lent) where
   none_allowed x e = rw (not-asked e)
 
   module _ (a : allowed f b ≡ true) where
-    pub has_arm : NoneOf last_kind f.kind → ⊥
-    unfolding asked_of_all
-    has_arm = numbered f (passed 1 (asked_of_all f b) (asked-allowed a))
+    -- "Question 1 now allows 1 to 7"
+    pub of_kind : (1 ≤ f.kind) × (f.kind ≤ last_kind)
+    unfolding asked_of_all is_kind
+    of_kind =
+        let p = and-true (leb 1 f.kind) (leb f.kind last_kind) (passed 1 (asked_of_all f b) (asked-allowed a)) in
+        (leb-true 1 f.kind p.0, leb-true f.kind last_kind p.1)
 
     pub bounded : (row f b).in_bounds ≡ true
     unfolding asked_of_all in_table

@@ -6,7 +6,7 @@ use mathlib.Core.Option.{none, some}
 use Prim.Native.Nat.{ℕ, ◌<◌, ◌^◌}
 use lib.ListN.{length}
 use Rattle.listings.specs.Bytes.{Bytes}
-use Rattle.listings.specs.Calls.{COUNT, FIRST, LAST, NEXT, PREVIOUS, RANK, UNRANK, REFUSED, RANKED, Said, first_no, act}
+use Rattle.listings.specs.Calls.{Call, FIRST, LAST, NEXT, PREVIOUS, RANK, UNRANK, REFUSED, RANKED, Said, first_no, act}
 use Rattle.families.specs.declared.Family.{Family}
 use Rattle.families.specs.Table.{Lent}
 use Rattle.families.specs.Families.{asked_of_all, object_length, is_object, count_of, rank_of}
@@ -15,9 +15,9 @@ use Rattle.families.specs.Calls.{respond}
 use Rattle.families.proofs.Verdicts.{refused_early, asks_enough, fits-asked}
 use Rattle.families.proofs.Responses.{refused, acts}
 
--- COUNT is refused where a question is missed that is put to all
-pub count_refused_early : (f : Family) (b : Lent) (x : Bytes) {q : ℕ} → first_no (asked_of_all f b) ≡ some q → ◌≡◌ {A = Said} (REFUSED q, x) (respond COUNT f b x)
-count_refused_early f b x e = refused f b x COUNT (refused_early f b COUNT (length x) (is_object f b x) e)
+-- every call is refused where a question is missed that is put to all
+pub refused_at_once : (f : Family) (b : Lent) (x : Bytes) (c : Call) {q : ℕ} → first_no (asked_of_all f b) ≡ some q → ◌≡◌ {A = Said} (REFUSED q, x) (respond c f b x)
+refused_at_once f b x c e = refused f b x c (refused_early f b c (length x) (is_object f b x) e)
 
 -- RANK tells the rank by the order
 pub rank_said : (f : Family) (b : Lent) (x : Bytes) → refusal RANK f b (length x) (is_object f b x) ≡ none → ◌≡◌ {A = Said} (RANKED (rank_of f b x), x) (respond RANK f b x)

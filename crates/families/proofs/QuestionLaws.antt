@@ -126,12 +126,7 @@ passed q (p ∷ ps) e =
     let h = passed_first p.yes? p.number (first_no ps) e in
     picked (eqb q p.number) p.yes? (yes_to q ps) h.0 (passed q ps h.1)
 
--- a question that isn't put to the call, and one that is
-
-pub not-put : (c : Call) (q : ℕ) (answer : Bool) → is_in q (asked c) ≡ false → (put c q answer).yes? ≡ true
-unfolding put
-not-put c q answer e = rw e
-
+-- a question that is put to the call
 pub is-put : (c : Call) (q : ℕ) (answer : Bool) → is_in q (asked c) ≡ true → (put c q answer).yes? ≡ answer
 unfolding put
 is-put c q answer e = rw e

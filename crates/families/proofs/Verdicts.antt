@@ -1,64 +1,33 @@
 -- The questions as the code puts them: what a verdict says of the questions, and the family's questions one by one.
 -- Assumes nothing.
 use mathlib.Core.Path.{◌≡◌, refl, sym, ◌∙◌, ap}
-use mathlib.Core.Bool.{Bool, true, false, not, false≢true}
-use mathlib.Core.Option.{Option, none, some, some-injective, some-ne-none}
-use mathlib.Core.List.{[], ◌∷◌, ◌++◌}
-use Rattle.std.specs.Prelude.{Result}
+use mathlib.Core.Bool.{Bool, true, false, cond, false≢true}
+use mathlib.Core.Option.{Option, none, some}
+use mathlib.Core.List.{[], ◌∷◌, append_assoc}
+use Rattle.std.specs.Prelude.{Result, Ok, Err}
 use Prim.Native.Nat.{ℕ, ◌<◌, ◌^◌}
-use native.Mathlib.Omega.{arith}
 use lib.Dec.{ltb}
-use borrow.Author.Tests.{not-true, not-false, lt-ltb, ltb-true}
-use Rattle.listings.specs.Calls.{Call, FIRST, LAST, NEXT, PREVIOUS, RANK, UNRANK, Question, first_no}
+use borrow.Author.Tests.{lt-ltb, ltb-true}
+use Rattle.listings.specs.Calls.{Call, FIRST, LAST, NEXT, PREVIOUS, RANK, UNRANK, first_no}
 use Rattle.listings.proofs.Demand.{Asks}
 use Rattle.families.specs.declared.Family.{Family}
 use Rattle.families.specs.declared.refusal.Refusal.{Refusal}
 use Rattle.families.specs.Table.{Lent}
-use Rattle.families.specs.Families.{always, asked_of_all, allowed, object_length, listing, count_of}
+use Rattle.families.specs.Families.{asked_of_all, allowed, object_length, listing, count_of}
 use Rattle.families.specs.Questions.{asked, is_in, put, rank_given, opening, closing_for, refusal}
 use Rattle.families.specs.Answers.{verdict_as}
 use Rattle.families.proofs.QuestionLaws.{after_pass, after_no, left_passes, right_passes, is-put, closing_passes}
 use Rattle.families.proofs.QuestionLaws as laws
-use Rattle.families.proofs.FamilyFacts.{allowed-asked}
+use Rattle.families.proofs.FamilyFacts.{allowed-asked, asked-allowed}
 
 -- what the code's verdict says
 pub verdict : {v w : Result (Unit {0}) Refusal} {o : Option ℕ} → verdict_as v ≡ o → v ≡ w → o ≡ verdict_as w
 verdict e told = sym e ∙ ap verdict_as told
 
--- the answer of the code's test is no, or yes
-pub is_no : {r a : Bool} → r ≡ a → not r ≡ true → a ≡ false
-is_no {r} e h = sym e ∙ not-true r h
-
-pub is_yes : {r a : Bool} → r ≡ a → not r ≡ false → a ≡ true
-is_yes {r} e h = sym e ∙ not-false r h
-
--- questions 5 and 8 read off the first no of the two, with others put between
-
-pub too_large : (a b : Bool) → first_no (always 5 a ∷ always 8 b ∷ []) ≡ some 5 → a ≡ false
-unfolding first_no
-too_large false b e = refl
-too_large true false e = absurd (omega (arith, some-injective 8 5 e))
-too_large true true e = absurd (some-ne-none 5 (sym e))
-
-pub beyond : (a b : Bool) → first_no (always 5 a ∷ always 8 b ∷ []) ≡ some 8 → (a ≡ true) × (b ≡ false)
-unfolding first_no
-beyond false b e = absurd (omega (arith, some-injective 5 8 e))
-beyond true false e = (refl, refl)
-beyond true true e = absurd (some-ne-none 8 (sym e))
-
-pub below : (a b : Bool) → first_no (always 5 a ∷ always 8 b ∷ []) ≡ none → (a ≡ true) × (b ≡ true)
-unfolding first_no
-below false b e = absurd (some-ne-none 5 e)
-below true false e = absurd (some-ne-none 8 e)
-below true true e = (refl, refl)
-
-pub between_pass : (p q r s : Question) → p.yes? ≡ true → s.yes? ≡ true → first_no (p ∷ q ∷ r ∷ s ∷ []) ≡ first_no (q ∷ r ∷ [])
-unfolding first_no
-between_pass p q r s e h = rw (e, h)
-
-pub between_no : (p q r s : Question) → p.yes? ≡ true → s.yes? ≡ false → first_no (p ∷ q ∷ r ∷ s ∷ []) ≡ first_no ((q ∷ r ∷ []) ++ (always s.number false ∷ []))
-unfolding first_no
-between_no p q r s e h = rw (e, h)
+-- where the code refuses by question 5, that is the question missed
+pub misses_five : (t v : Bool) {q : Refusal} → cond t (Ok v) (Err Refusal.TooMany) ≡ Err q → (t ≡ false) × (q ≡ Refusal.TooMany)
+misses_five true v e = absurd (cc)
+misses_five false v e = (refl, cc)
 
 module _ (f : Family) (b : Lent) where
   -- a question put to all that is missed is missed by every call
@@ -66,6 +35,13 @@ module _ (f : Family) (b : Lent) where
   unfolding refusal opening
   refused_early c size holds e =
       after_no (opening c f b) (closing_for c (count_of f b) (object_length f b) size holds) (after_no (asked_of_all f b) (put c 4 (ltb 0 (count_of f b)) ∷ []) e)
+
+  -- of an allowed family the other questions are left
+  pub others : (c : Call) (size : ℕ) (holds : Bool) → allowed f b ≡ true → refusal c f b size holds ≡ first_no (put c 4 (ltb 0 (count_of f b)) ∷ closing_for c (count_of f b) (object_length f b) size holds)
+  unfolding refusal opening
+  others c size holds a =
+      let rest = closing_for c (count_of f b) (object_length f b) size holds in
+      ap first_no (append_assoc (asked_of_all f b) (put c 4 (ltb 0 (count_of f b)) ∷ []) rest) ∙ after_pass (asked_of_all f b) (put c 4 (ltb 0 (count_of f b)) ∷ rest) (asked-allowed f b a)
 
   -- a family is allowed where the questions about it pass
   pub opened : (c : Call) → first_no (opening c f b) ≡ none → allowed f b ≡ true

@@ -11,7 +11,9 @@ ghost use Rattle.families.specs.Questions.{opening as opening_of};
 ghost use Rattle.families.specs.Calls.{respond, measured};
 ghost use Rattle.families.specs.Answers.{call_as, verdict_as, counted_as, ranked_as, written_as, stepped_as, length_as};
 
+mod admitted;
 pub mod codes;
+mod kind;
 mod kinds;
 mod questions;
 mod refusal;
@@ -69,8 +71,8 @@ pub fn no_lists<'a>(any: &'a [u8]) -> Lists<'a>
 pub fn object_length<'a>(f: Family, lists: Lists<'a>) -> Result<u64, Refusal>
     ensures { length_as result ≡ measured f (lent (map (λ x. x.now) lists.entry)) }
 {
-    questions::asked_of_all(f, lists)?;
-    Ok(table::object_length(f, lists))
+    let a = questions::asked_of_all(&f, &lists)?;
+    Ok(table::object_length(a))
 }
 
 // The questions about the family alone, as they are put to a call.
@@ -85,7 +87,10 @@ pub fn opening<'a>(c: Call, f: Family, lists: Lists<'a>) -> Result<(), Refusal>
 pub fn is_object<'a>(f: Family, lists: Lists<'a>, object: &[u8]) -> bool
     ensures { result ≡ is_object f (lent (map (λ x. x.now) lists.entry)) object.now }
 {
-    questions::asked_of_all(f, lists).is_ok() && kinds::is_object(f, lists, object)
+    match questions::asked_of_all(&f, &lists) {
+        Ok(a) => kinds::is_object(a, object),
+        Err(_) => false,
+    }
 }
 
 // Questions 5 and 8 for a number, whatever the call.
@@ -93,76 +98,86 @@ pub fn is_object<'a>(f: Family, lists: Lists<'a>, object: &[u8]) -> bool
 pub fn rank_below<'a>(rank: u64, f: Family, lists: Lists<'a>) -> Result<(), Refusal>
     ensures { verdict_as result ≡ rank_refusal rank (count_of f (lent (map (λ x. x.now) lists.entry))) }
 {
-    let is_below = questions::asked_of_all(f, lists).is_ok()
-        && table::is_below_count(rank, f, lists)?;
-    if is_below { Ok(()) } else { Err(Refusal::Rank) }
+    let Ok(a) = questions::asked_of_all(&f, &lists) else {
+        return Err(Refusal::Rank);
+    };
+    if !table::is_below_count(rank, a)? {
+        return Err(Refusal::Rank);
+    }
+    Ok(())
 }
 
 // COUNT: how many objects the family has.
-#[tactic(auto, using(crate::proofs::FamilyFacts::admits, crate::proofs::Passing::count_refused_early, crate::proofs::Responses::count_said, crate::proofs::Responses::count_refused), unfolding(counting::specs::Answers::fits))]
+#[tactic(auto, using(crate::proofs::FamilyFacts::admits, crate::proofs::Passing::refused_at_once, crate::proofs::Responses::count_said, crate::proofs::Responses::count_refused), unfolding(counting::specs::Answers::fits))]
 pub fn count<'a>(f: Family, lists: Lists<'a>) -> Result<u64, Refusal>
     ensures { ◌≡◌ {A = Said} (counted_as result, []) (respond COUNT f (lent (map (λ x. x.now) lists.entry)) []) }
 {
-    questions::asked_of_all(f, lists)?;
-    match table::answer(f, lists) {
+    let a = questions::asked_of_all(&f, &lists)?;
+    match table::answer(a) {
         Count::Exactly(objects) => Ok(objects),
         _ => Err(Refusal::TooMany),
     }
 }
 
 // FIRST: writes the earliest object.
-#[tactic(auto, using(crate::proofs::Verdicts::admitted, crate::proofs::Passing::first_some, crate::proofs::Passing::first_long, crate::proofs::Responses::refused, crate::proofs::Responses::writes_first))]
+#[tactic(auto, using(crate::proofs::Verdicts::admitted, crate::proofs::Passing::first_some, crate::proofs::Passing::first_long, crate::proofs::Passing::refused_at_once, crate::proofs::Responses::refused, crate::proofs::Responses::writes_first))]
 pub fn first<'a>(f: Family, lists: Lists<'a>, object: &mut [u8]) -> Result<(), Refusal>
     ensures { ◌≡◌ {A = Said} (written_as result, object.new) (respond FIRST f (lent (map (λ x. x.now) lists.entry)) object.old) }
 {
-    questions::ask(Call::First, f, lists, object)?;
-    kinds::first(f, lists, object);
+    let a = questions::asked_of_all(&f, &lists)?;
+    questions::ask_others(Call::First, a, object)?;
+    kinds::first(a, object);
     Ok(())
 }
 
 // LAST: writes the latest object.
-#[tactic(auto, using(crate::proofs::Verdicts::admitted, crate::proofs::Passing::last_some, crate::proofs::Passing::last_long, crate::proofs::Responses::refused, crate::proofs::Responses::writes_last))]
+#[tactic(auto, using(crate::proofs::Verdicts::admitted, crate::proofs::Passing::last_some, crate::proofs::Passing::last_long, crate::proofs::Passing::refused_at_once, crate::proofs::Responses::refused, crate::proofs::Responses::writes_last))]
 pub fn last<'a>(f: Family, lists: Lists<'a>, object: &mut [u8]) -> Result<(), Refusal>
     ensures { ◌≡◌ {A = Said} (written_as result, object.new) (respond LAST f (lent (map (λ x. x.now) lists.entry)) object.old) }
 {
-    questions::ask(Call::Last, f, lists, object)?;
-    kinds::last(f, lists, object);
+    let a = questions::asked_of_all(&f, &lists)?;
+    questions::ask_others(Call::Last, a, object)?;
+    kinds::last(a, object);
     Ok(())
 }
 
 // NEXT: replaces the object by the one just after it, or answers END and changes nothing.
-#[tactic(auto, using(crate::proofs::Passing::next_holds, crate::proofs::Responses::refused, crate::proofs::Responses::acts))]
+#[tactic(auto, using(crate::proofs::Passing::next_holds, crate::proofs::Passing::refused_at_once, crate::proofs::Responses::refused, crate::proofs::Responses::acts))]
 pub fn next<'a>(f: Family, lists: Lists<'a>, object: &mut [u8]) -> Result<Step, Refusal>
     ensures { ◌≡◌ {A = Said} (stepped_as result, object.new) (respond NEXT f (lent (map (λ x. x.now) lists.entry)) object.old) }
 {
-    questions::ask(Call::Next, f, lists, object)?;
-    Ok(kinds::next(f, lists, object))
+    let a = questions::asked_of_all(&f, &lists)?;
+    questions::ask_others(Call::Next, a, object)?;
+    Ok(kinds::next(a, object))
 }
 
 // PREVIOUS: replaces the object by the one just before it, or answers END and changes nothing.
-#[tactic(auto, using(crate::proofs::Passing::previous_holds, crate::proofs::Responses::refused, crate::proofs::Responses::acts))]
+#[tactic(auto, using(crate::proofs::Passing::previous_holds, crate::proofs::Passing::refused_at_once, crate::proofs::Responses::refused, crate::proofs::Responses::acts))]
 pub fn previous<'a>(f: Family, lists: Lists<'a>, object: &mut [u8]) -> Result<Step, Refusal>
     ensures { ◌≡◌ {A = Said} (stepped_as result, object.new) (respond PREVIOUS f (lent (map (λ x. x.now) lists.entry)) object.old) }
 {
-    questions::ask(Call::Previous, f, lists, object)?;
-    Ok(kinds::previous(f, lists, object))
+    let a = questions::asked_of_all(&f, &lists)?;
+    questions::ask_others(Call::Previous, a, object)?;
+    Ok(kinds::previous(a, object))
 }
 
 // RANK: how many objects come before this one.
-#[tactic(auto, using(crate::proofs::Passing::rank_holds, crate::proofs::Passing::rank_fits, crate::proofs::Passing::rank_said, crate::proofs::Responses::refused))]
+#[tactic(auto, using(crate::proofs::Passing::rank_holds, crate::proofs::Passing::rank_fits, crate::proofs::Passing::rank_said, crate::proofs::Passing::refused_at_once, crate::proofs::Responses::refused))]
 pub fn rank<'a>(f: Family, lists: Lists<'a>, object: &[u8]) -> Result<u64, Refusal>
     ensures { ◌≡◌ {A = Said} (ranked_as result, object.now) (respond RANK f (lent (map (λ x. x.now) lists.entry)) object.now) }
 {
-    questions::ask(Call::Rank, f, lists, object)?;
-    Ok(kinds::rank(f, lists, object))
+    let a = questions::asked_of_all(&f, &lists)?;
+    questions::ask_others(Call::Rank, a, object)?;
+    Ok(kinds::rank(a, object))
 }
 
 // UNRANK: writes the object of a rank.
-#[tactic(auto, using(crate::proofs::Verdicts::admitted, crate::proofs::Passing::unrank_fits, crate::proofs::Passing::unrank_long, crate::proofs::Passing::unrank_below, crate::proofs::Responses::refused, crate::proofs::Responses::writes_ranked))]
+#[tactic(auto, using(crate::proofs::Verdicts::admitted, crate::proofs::Passing::unrank_fits, crate::proofs::Passing::unrank_long, crate::proofs::Passing::unrank_below, crate::proofs::Passing::refused_at_once, crate::proofs::Responses::refused, crate::proofs::Responses::writes_ranked))]
 pub fn unrank<'a>(rank: u64, f: Family, lists: Lists<'a>, object: &mut [u8]) -> Result<(), Refusal>
     ensures { ◌≡◌ {A = Said} (written_as result, object.new) (respond (UNRANK rank) f (lent (map (λ x. x.now) lists.entry)) object.old) }
 {
-    questions::ask(Call::Unrank(rank), f, lists, object)?;
-    kinds::unrank(rank, f, lists, object);
+    let a = questions::asked_of_all(&f, &lists)?;
+    questions::ask_others(Call::Unrank(rank), a, object)?;
+    kinds::unrank(rank, a, object);
     Ok(())
 }

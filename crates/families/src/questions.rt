@@ -1,12 +1,15 @@
 // "Questions at the counter", asked in one place and in the order of the paper.
-ghost use Rattle.std.specs.Prelude.{◌≡◌, true, cond, map, [], ◌∷◌, ◌^◌, ltb, eqb, length};
+ghost use Rattle.std.specs.Prelude.{◌≡◌, IfOk, cond, map, [], ◌∷◌, ◌^◌, ltb, eqb, length};
 ghost use Rattle.listings.specs.Calls.{first_no};
 ghost use Rattle.families.specs.Table.{lent};
-ghost use Rattle.families.specs.Families.{asked_of_all, allowed, object_length, is_object, count_of};
+ghost use Rattle.families.specs.Families.{asked_of_all, object_length, is_object, count_of};
 ghost use Rattle.families.specs.Questions.{asked, is_in, put, rank_given, closing_for, refusal};
 ghost use Rattle.families.specs.Questions.{opening as opening_of};
 ghost use Rattle.families.specs.Answers.{call_as, verdict_as};
+ghost use Rattle.families.specs.Inner.Admissions.{lists_of, missed};
 
+use crate::admitted::Admitted;
+use crate::kind::Kind;
 use crate::{Family, Lists, Refusal, kinds, table};
 
 // A call, with the rank that UNRANK is handed.
@@ -38,44 +41,42 @@ fn reads_an_object(c: Call) -> bool
 }
 
 // The questions that are put to every call: the family and its lists.
-#[tactic(auto, unfolding(crate::specs::Families::asked_of_all, listings::specs::Calls::first_no))]
-pub fn asked_of_all<'a>(f: Family, lists: Lists<'a>) -> Result<(), Refusal>
-    ensures { verdict_as result ≡ first_no (asked_of_all f (lent (map (λ x. x.now) lists.entry))) }
+#[tactic(auto, using(crate::proofs::FamilyFacts::admits, crate::proofs::Dispatch::named_kind), unfolding(crate::specs::Families::is_kind, crate::specs::Families::asked_of_all, listings::specs::Calls::first_no))]
+pub fn asked_of_all<'a>(f: &'a Family, lists: &'a Lists<'a>) -> Result<Admitted<'a>, Refusal>
+    ensures refused { missed result ≡ first_no (asked_of_all f.now (lent (map (λ x. x.now) lists.now))) }
+    ensures same { IfOk result (λ a. (a.family.now ≡ f.now) × (a.lists.now ≡ lists.now)) }
 {
-    if !table::is_kind(f) {
-        return Err(Refusal::Kind);
-    }
-    if !table::in_table(f, lists) {
+    let kind = Kind::try_from(f.kind)?;
+    if !table::in_table(kind, *f, *lists) {
         return Err(Refusal::Sizes);
     }
-    if !table::floor_fits(f) {
+    if !table::floor_fits(kind, *f) {
         return Err(Refusal::Floor);
     }
-    if !table::edition_fits(f) {
+    if !table::edition_fits(kind, *f) {
         return Err(Refusal::Edition);
     }
-    if !table::lists_fit(f, lists) {
+    if !table::lists_fit(kind, *f, *lists) {
         return Err(Refusal::Counts);
     }
-    Ok(())
+    Ok(Admitted { family: f, lists })
 }
 
 // Question 4: has the family an object?
 #[tactic(auto, using(crate::proofs::FamilyFacts::has_object_lem), unfolding(crate::specs::Questions::put))]
-fn some_object<'a>(c: Call, f: Family, lists: Lists<'a>) -> bool
-    requires { allowed f (lent (map (λ x. x.now) lists)) ≡ true }
-    ensures { result ≡ (put (call_as c) 4 (ltb 0 (count_of f (lent (map (λ x. x.now) lists.entry))))).yes? }
+fn some_object<'a>(c: Call, a: Admitted<'a>) -> bool
+    ensures { result ≡ (put (call_as c) 4 (ltb 0 (count_of a.entry.family.now (lists_of a.entry)))).yes? }
 {
-    !has_buffer(c) || table::has_object(f, lists)
+    !has_buffer(c) || table::has_object(a)
 }
 
 // The questions about the family alone: those put to all, and question 4.
-#[tactic(auto, using(crate::proofs::QuestionLaws::after_pass, crate::proofs::QuestionLaws::after_no, crate::proofs::FamilyFacts::admits), unfolding(listings::specs::Calls::first_no, crate::specs::Questions::opening, crate::specs::Questions::put))]
+#[tactic(auto, using(crate::proofs::QuestionLaws::after_pass, crate::proofs::QuestionLaws::after_no), unfolding(listings::specs::Calls::first_no, crate::specs::Questions::opening, crate::specs::Questions::put))]
 pub fn opening<'a>(c: Call, f: Family, lists: Lists<'a>) -> Result<(), Refusal>
     ensures { verdict_as result ≡ first_no (opening_of (call_as c) f (lent (map (λ x. x.now) lists.entry))) }
 {
-    asked_of_all(f, lists)?;
-    if !some_object(c, f, lists) {
+    let a = asked_of_all(&f, &lists)?;
+    if !some_object(c, a) {
         return Err(Refusal::NoObject);
     }
     Ok(())
@@ -83,63 +84,52 @@ pub fn opening<'a>(c: Call, f: Family, lists: Lists<'a>) -> Result<(), Refusal>
 
 // Question 8, unless question 5 refuses: a count that is worked out once answers both.
 #[tactic(auto, unfolding(crate::specs::Questions::put, crate::specs::Questions::asked, crate::specs::Questions::is_in, crate::specs::Questions::rank_given))]
-fn number_fits<'a>(c: Call, f: Family, lists: Lists<'a>) -> Result<bool, Refusal>
-    requires { allowed f (lent (map (λ x. x.now) lists)) ≡ true }
-    ensures { let count = count_of f (lent (map (λ x. x.now) lists.entry)) in result ≡ cond (put (call_as c) 5 (ltb count (2 ^ 64))).yes? (Ok (put (call_as c) 8 (ltb (rank_given (call_as c)) count)).yes?) (Err Refusal.TooMany) }
+fn number_fits<'a>(c: Call, a: Admitted<'a>) -> Result<bool, Refusal>
+    ensures { let count = count_of a.entry.family.now (lists_of a.entry) in result ≡ cond (put (call_as c) 5 (ltb count (2 ^ 64))).yes? (Ok (put (call_as c) 8 (ltb (rank_given (call_as c)) count)).yes?) (Err Refusal.TooMany) }
 {
     match c {
         Call::Count | Call::Rank => {
-            if !table::count_fits(f, lists) {
+            if !table::count_fits(a) {
                 return Err(Refusal::TooMany);
             }
             Ok(true)
         }
-        Call::Unrank(rank) => table::is_below_count(rank, f, lists),
+        Call::Unrank(rank) => table::is_below_count(rank, a),
         Call::First | Call::Last | Call::Next | Call::Previous => Ok(true),
     }
 }
 
 // Question 6: has the buffer the length of the family's objects?
 #[tactic(auto, unfolding(crate::specs::Questions::put))]
-fn buffer_fits<'a>(c: Call, f: Family, lists: Lists<'a>, object: &[u8]) -> bool
-    requires { allowed f (lent (map (λ x. x.now) lists)) ≡ true }
-    ensures { result ≡ (put (call_as c) 6 (eqb (length object.now) (object_length f (lent (map (λ x. x.now) lists.entry))))).yes? }
+fn buffer_fits<'a>(c: Call, a: Admitted<'a>, object: &[u8]) -> bool
+    ensures { result ≡ (put (call_as c) 6 (eqb (length object.now) (object_length a.entry.family.now (lists_of a.entry)))).yes? }
 {
-    !has_buffer(c) || object.len() as u64 == table::object_length(f, lists)
+    !has_buffer(c) || object.len() as u64 == table::object_length(a)
 }
 
 // Question 7: does the buffer hold an object?
 #[tactic(auto, unfolding(crate::specs::Questions::put))]
-fn holds<'a>(c: Call, f: Family, lists: Lists<'a>, object: &[u8]) -> bool
-    requires { allowed f (lent (map (λ x. x.now) lists)) ≡ true }
-    ensures { result ≡ (put (call_as c) 7 (is_object f (lent (map (λ x. x.now) lists.entry)) object.now)).yes? }
+fn holds<'a>(c: Call, a: Admitted<'a>, object: &[u8]) -> bool
+    ensures { result ≡ (put (call_as c) 7 (is_object a.entry.family.now (lists_of a.entry) object.now)).yes? }
 {
-    !reads_an_object(c) || kinds::is_object(f, lists, object)
+    !reads_an_object(c) || kinds::is_object(a, object)
 }
 
-// Questions 6 and 7, between those that the count answers.
-#[tactic(auto, unfolding(listings::specs::Calls::first_no, crate::specs::Questions::put))]
-fn buffer_serves<'a>(c: Call, f: Family, lists: Lists<'a>, object: &[u8]) -> Result<(), Refusal>
-    requires { allowed f (lent (map (λ x. x.now) lists)) ≡ true }
-    ensures { verdict_as result ≡ first_no (put (call_as c) 6 (eqb (length object.now) (object_length f (lent (map (λ x. x.now) lists.entry)))) ∷ put (call_as c) 7 (is_object f (lent (map (λ x. x.now) lists.entry)) object.now) ∷ []) }
+// The other questions of a call, of a family that is admitted: 4 to 8.
+#[tactic(auto, using(crate::proofs::Verdicts::others), unfolding(listings::specs::Calls::first_no, crate::specs::Questions::closing_for, crate::specs::Questions::put))]
+pub fn ask_others<'a>(c: Call, a: Admitted<'a>, object: &[u8]) -> Result<(), Refusal>
+    ensures { verdict_as result ≡ refusal (call_as c) a.entry.family.now (lists_of a.entry) (length object.now) (is_object a.entry.family.now (lists_of a.entry) object.now) }
 {
-    if !buffer_fits(c, f, lists, object) {
+    if !some_object(c, a) {
+        return Err(Refusal::NoObject);
+    }
+    let is_below = number_fits(c, a)?;
+    if !buffer_fits(c, a, object) {
         return Err(Refusal::Length);
     }
-    if !holds(c, f, lists, object) {
+    if !holds(c, a, object) {
         return Err(Refusal::NotAnObject);
     }
-    Ok(())
-}
-
-// Questions 5 to 8: the count, the buffer, the object in it and the rank.
-#[tactic(auto, unfolding(listings::specs::Calls::first_no, crate::specs::Questions::closing_for, crate::specs::Questions::put))]
-fn closing<'a>(c: Call, f: Family, lists: Lists<'a>, object: &[u8]) -> Result<(), Refusal>
-    requires { allowed f (lent (map (λ x. x.now) lists)) ≡ true }
-    ensures { verdict_as result ≡ first_no (closing_for (call_as c) (count_of f (lent (map (λ x. x.now) lists.entry))) (object_length f (lent (map (λ x. x.now) lists.entry))) (length object.now) (is_object f (lent (map (λ x. x.now) lists.entry)) object.now)) }
-{
-    let is_below = number_fits(c, f, lists)?;
-    buffer_serves(c, f, lists, object)?;
     if !is_below {
         return Err(Refusal::Rank);
     }
@@ -147,10 +137,10 @@ fn closing<'a>(c: Call, f: Family, lists: Lists<'a>, object: &[u8]) -> Result<()
 }
 
 // All questions of a call: the first that is answered by no.
-#[tactic(auto, using(crate::proofs::QuestionLaws::after_pass, crate::proofs::QuestionLaws::after_no, crate::proofs::Verdicts::opened), unfolding(crate::specs::Questions::refusal))]
+#[tactic(auto, using(crate::proofs::Verdicts::refused_early))]
 pub fn ask<'a>(c: Call, f: Family, lists: Lists<'a>, object: &[u8]) -> Result<(), Refusal>
     ensures { verdict_as result ≡ refusal (call_as c) f (lent (map (λ x. x.now) lists.entry)) (length object.now) (is_object f (lent (map (λ x. x.now) lists.entry)) object.now) }
 {
-    opening(c, f, lists)?;
-    closing(c, f, lists, object)
+    let a = asked_of_all(&f, &lists)?;
+    ask_others(c, a, object)
 }

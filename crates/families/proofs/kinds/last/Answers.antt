@@ -1,0 +1,57 @@
+-- `families::kinds::last`: each kind is handed what it asks, and its listing is the family's.
+use mathlib.Core.Path.{refl, ◌∙◌}
+use lib.ListN.{get_or-map}
+use borrow.Author.Tests.{leb-true}
+use Rattle.families.proofs.Dispatch.{given, given_n, given_k, n_within, letters_fit, shared, other_than}
+use Rattle.families.proofs.kinds.last.Goals as goal
+
+pub last-requires : goal.last-requires
+last-requires c = let t = given_k c.args.a c.kind.ensures c.in-Subsets.is _ c.requires.object_len refl in (n_within _ _ _ t.bounds, leb-true _ _ (t.some c.requires.nonzero))
+
+pub last-requires-in-Anagrams : goal.last-requires-in-Anagrams
+last-requires-in-Anagrams c = let t = given c.args.a c.kind.ensures c.in-Anagrams.is in rw (← get_or-map (λ x. x.now) c.args.a.lists.now 0 _) (letters_fit t, c.requires.object_len ∙ t.long)
+
+pub last-requires-in-Permutations : goal.last-requires-in-Permutations
+last-requires-in-Permutations c = n_within _ _ _ (given_n c.args.a c.kind.ensures c.in-Permutations.is _ c.requires.object_len refl).bounds
+
+pub last-requires-in-SetPartitions-clause-object_len_bound : goal.last-requires-in-SetPartitions-clause-object_len_bound
+last-requires-in-SetPartitions-clause-object_len_bound c = n_within _ _ _ (given_n c.args.a c.kind.ensures c.in-SetPartitions.is _ c.requires.object_len refl).bounds
+
+pub last-requires-in-SetPartitions-clause-k_in_bounds : goal.last-requires-in-SetPartitions-clause-k_in_bounds
+last-requires-in-SetPartitions-clause-k_in_bounds c = shared _ _ _ ((given_n c.args.a c.kind.ensures c.in-SetPartitions.is _ c.requires.object_len refl).some c.requires.nonzero)
+
+pub last-requires-in-IntegerPartitions-clause-n_le_places : goal.last-requires-in-IntegerPartitions-clause-n_le_places
+last-requires-in-IntegerPartitions-clause-n_le_places c = let t = given_k c.args.a c.kind.ensures c.in-IntegerPartitions.is _ c.requires.object_len refl in (n_within _ _ _ t.bounds, (shared _ _ _ (t.some c.requires.nonzero)).0)
+
+pub last-requires-in-IntegerPartitions-clause-n_value : goal.last-requires-in-IntegerPartitions-clause-n_value
+last-requires-in-IntegerPartitions-clause-n_value c = (shared _ _ _ ((given_k c.args.a c.kind.ensures c.in-IntegerPartitions.is _ c.requires.object_len refl).some c.requires.nonzero)).1
+
+pub last-requires-in-DyckWords : goal.last-requires-in-DyckWords
+last-requires-in-DyckWords c = c.requires.object_len ∙ (given c.args.a c.kind.ensures c.in-DyckWords.is).long
+
+pub last-requires-in-Derangements-clause-object_len_bound : goal.last-requires-in-Derangements-clause-object_len_bound
+last-requires-in-Derangements-clause-object_len_bound c = n_within _ _ _ (given_n c.args.a c.kind.ensures c.in-Derangements.is _ c.requires.object_len refl).bounds
+
+pub last-requires-in-Derangements-clause-fact : goal.last-requires-in-Derangements-clause-fact
+last-requires-in-Derangements-clause-fact c = other_than _ 1 ((given_n c.args.a c.kind.ensures c.in-Derangements.is _ c.requires.object_len refl).some c.requires.nonzero)
+
+pub returns-in-Subsets : goal.returns-in-Subsets
+returns-in-Subsets c = rw (given_k c.args.a c.kind.ensures c.in-Subsets.is _ c.requires.object_len refl).lists c.last.ensures
+
+pub returns-in-Anagrams : goal.returns-in-Anagrams
+returns-in-Anagrams c = rw (given c.args.a c.kind.ensures c.in-Anagrams.is).lists (rw (← get_or-map (λ x. x.now) c.args.a.lists.now 0 _) at c.last-in-Anagrams.ensures)
+
+pub returns-in-Permutations : goal.returns-in-Permutations
+returns-in-Permutations c = rw (given_n c.args.a c.kind.ensures c.in-Permutations.is _ c.requires.object_len refl).lists c.last-in-Permutations.ensures
+
+pub returns-in-SetPartitions : goal.returns-in-SetPartitions
+returns-in-SetPartitions c = rw (given_n c.args.a c.kind.ensures c.in-SetPartitions.is _ c.requires.object_len refl).lists c.last-in-SetPartitions.ensures
+
+pub returns-in-IntegerPartitions : goal.returns-in-IntegerPartitions
+returns-in-IntegerPartitions c = rw (given_k c.args.a c.kind.ensures c.in-IntegerPartitions.is _ c.requires.object_len refl).lists c.last-in-IntegerPartitions.ensures
+
+pub returns-in-DyckWords : goal.returns-in-DyckWords
+returns-in-DyckWords c = rw (given c.args.a c.kind.ensures c.in-DyckWords.is).lists c.last-in-DyckWords.ensures
+
+pub returns-in-Derangements : goal.returns-in-Derangements
+returns-in-Derangements c = rw (given_n c.args.a c.kind.ensures c.in-Derangements.is _ c.requires.object_len refl).lists c.last-in-Derangements.ensures
