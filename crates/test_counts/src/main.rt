@@ -12,84 +12,84 @@ ghost use Rattle.std.specs.Prelude.{◌≤◌, ◌+◌};
 ghost use Rattle.basics.specs.Limits.{places};
 
 use basics::{LONGEST_OBJECT, PLACES};
-use counting::Count;
-use std::io;
-use test_support::{behind, decimal, end_line, list, number, read_input, text, until};
+use counting::{Count, CountError};
+use std::{fmt, io};
+use test_support::{behind, decimal, list, read_input, text, until};
 
 // The rows within the limits, and one beyond them.
 const ROWS: u64 = PLACES + 2;
 
+// A count that is asked for, all but the multinomials.
+#[derive(Clone, Copy)]
+enum Question {
+    Binomial { n: u64, k: u64 },
+    Stirling { n: u64, k: u64 },
+    Partitions { n: u64, k: u64, floor: u64 },
+    Factorial { n: u64 },
+    Catalan { n: u64 },
+    Derangement { n: u64 },
+}
+
+impl Question {
+    // The question whose name begins with the letter; only partitions have a floor.
+    fn new(letter: u8, n: u64, k: u64, floor: u64) -> Question {
+        match letter {
+            b'b' => Question::Binomial { n, k },
+            b's' => Question::Stirling { n, k },
+            b'p' => Question::Partitions { n, k, floor },
+            b'f' => Question::Factorial { n },
+            b'd' => Question::Derangement { n },
+            _ => Question::Catalan { n },
+        }
+    }
+
+    fn count(self) -> Count {
+        match self {
+            Question::Binomial { n, k } => counting::subset_count(n, k),
+            Question::Stirling { n, k } => counting::stirling(n, k),
+            Question::Partitions { n, k, floor } => counting::partitions(floor, n, k),
+            Question::Factorial { n } => counting::factorial(n),
+            Question::Catalan { n } => counting::catalan(n),
+            Question::Derangement { n } => counting::derangement(n),
+        }
+    }
+}
+
+// The floor is said where it isn't 1.
+impl fmt::Display for Question {
+    fn fmt<W: fmt::Write>(&self, f: &mut fmt::Formatter<W>) -> fmt::Result {
+        match *self {
+            Question::Binomial { n, k } => write!(f, "binomial {n} {k}"),
+            Question::Stirling { n, k } => write!(f, "stirling {n} {k}"),
+            Question::Partitions { n, k, floor: 1 } => write!(f, "partitions {n} {k}"),
+            Question::Partitions { n, k, floor } => write!(f, "partitions {n} {k} {floor}"),
+            Question::Factorial { n } => write!(f, "factorial {n}"),
+            Question::Catalan { n } => write!(f, "catalan {n}"),
+            Question::Derangement { n } => write!(f, "derangement {n}"),
+        }
+    }
+}
+
 // What ends every line.
 fn answer(rt: &impl Print, c: Count) -> io::Result<()> {
-    text(rt, b":")?;
     match c {
-        Count::Exactly(v) => number(rt, v)?,
-        Count::TooLarge => text(rt, b" too large")?,
-        Count::Outside => text(rt, b" outside")?,
-    }
-    end_line(rt)
-}
-
-// The count whose name begins with the letter; only partitions have a floor.
-fn count(letter: u8, n: u64, k: u64, floor: u64) -> Count {
-    match letter {
-        b'b' => counting::subset_count(n, k),
-        b's' => counting::stirling(n, k),
-        b'p' => counting::partitions(floor, n, k),
-        b'f' => counting::factorial(n),
-        b'd' => counting::derangement(n),
-        _ => counting::catalan(n),
+        Ok(v) => println!(rt; ": {v}"),
+        Err(CountError::TooLarge) => println!(rt; ": too large"),
+        Err(CountError::Outside) => println!(rt; ": outside"),
     }
 }
 
-fn name(rt: &impl Print, letter: u8) -> io::Result<()> {
-    match letter {
-        b'b' => text(rt, b"binomial"),
-        b's' => text(rt, b"stirling"),
-        b'p' => text(rt, b"partitions"),
-        b'f' => text(rt, b"factorial"),
-        b'd' => text(rt, b"derangement"),
-        _ => text(rt, b"catalan"),
-    }
-}
-
-fn one(rt: &impl Print, letter: u8, n: u64) -> io::Result<()> {
-    name(rt, letter)?;
-    number(rt, n)?;
-    answer(rt, count(letter, n, 0, 1))
-}
-
-fn two(rt: &impl Print, letter: u8, n: u64, k: u64) -> io::Result<()> {
-    name(rt, letter)?;
-    number(rt, n)?;
-    number(rt, k)?;
-    answer(rt, count(letter, n, k, 1))
-}
-
-fn three(rt: &impl Print, letter: u8, n: u64, k: u64, floor: u64) -> io::Result<()> {
-    name(rt, letter)?;
-    number(rt, n)?;
-    number(rt, k)?;
-    number(rt, floor)?;
-    answer(rt, count(letter, n, k, floor))
-}
-
-// The largest two numbers stand for no count: they have prime factors above the largest n, and a binomial has none.
-fn code(c: Count) -> u64 {
-    match c {
-        Count::Exactly(v) => v,
-        Count::TooLarge => 18446744073709551615,
-        Count::Outside => 18446744073709551614,
-    }
+fn ask(rt: &impl Print, question: Question) -> io::Result<()> {
+    print!(rt; "{question}")?;
+    answer(rt, question.count())
 }
 
 // The two ways to a binomial; a line only where they differ, so none is expected.
 fn agree(rt: &impl Print, n: u64, k: u64) -> io::Result<()> {
-    if code(counting::coefficient(n, k)) != code(counting::subset_count(n, k)) {
-        text(rt, b"coefficient")?;
-        number(rt, n)?;
-        number(rt, k)?;
-        answer(rt, counting::coefficient(n, k))?;
+    let c = counting::coefficient(n, k);
+    if c != counting::subset_count(n, k) {
+        print!(rt; "coefficient {n} {k}")?;
+        answer(rt, c)?;
     }
     Ok(())
 }
@@ -100,14 +100,14 @@ fn rows(rt: &impl Print, n: u64) -> io::Result<()>
 {
     for k in 0..n + 2 {
         agree(rt, n, k)?;
-        two(rt, b'b', n, k)?;
-        two(rt, b's', n, k)?;
-        two(rt, b'p', n, k)?;
-        three(rt, b'p', n, k, 2)?;
+        ask(rt, Question::Binomial { n, k })?;
+        ask(rt, Question::Stirling { n, k })?;
+        ask(rt, Question::Partitions { n, k, floor: 1 })?;
+        ask(rt, Question::Partitions { n, k, floor: 2 })?;
     }
-    one(rt, b'f', n)?;
-    one(rt, b'c', n)?;
-    one(rt, b'd', n)
+    ask(rt, Question::Factorial { n })?;
+    ask(rt, Question::Catalan { n })?;
+    ask(rt, Question::Derangement { n })
 }
 
 // A multinomial, of one letter more than there are places at the most.
@@ -117,28 +117,25 @@ fn word(rt: &impl Print, line: &[u8], start: usize) -> io::Result<()> {
     answer(rt, counting::multinomial(&counts[..len]))
 }
 
-fn edge(rt: &impl Print, letter: u8, line: &[u8]) -> io::Result<()> {
+// A line of the input: the text to print, which begins with the question's letter, a colon, and the numbers.
+fn edge(rt: &impl Print, line: &[u8]) -> io::Result<()> {
     let colon = until(line, 0, b':');
     text(rt, &line[..colon])?;
     let start = behind(line, colon, b':');
+    let letter = line.first().copied().unwrap_or(b'\n');
     if letter == b'm' {
         return word(rt, line, start);
     }
     let n = decimal(line, start);
     let k = decimal(line, n.end);
     let floor = decimal(line, k.end);
-    answer(rt, count(letter, n.value, k.value, floor.value))
+    let question = Question::new(letter, n.value, k.value, floor.value);
+    answer(rt, question.count())
 }
 
-fn edges(rt: &impl Print, s: &[u8]) -> io::Result<()> {
-    let mut at = 0;
-    while at < s.len() {
-        let end = until(s, at, b'\n');
-        edge(rt, s[at], &s[at..end])?;
-        if end == s.len() {
-            return Ok(());
-        }
-        at = end + 1;
+fn edges(rt: &impl Print, input: &[u8]) -> io::Result<()> {
+    for line in input.split_inclusive(|b| *b == b'\n') {
+        edge(rt, line.strip_suffix(b"\n").unwrap_or(line))?;
     }
     Ok(())
 }
