@@ -17,15 +17,14 @@ use Rattle.numbers.proofs.Stirlings.{stirling_none, stirling_zero, stirling_grow
 use Rattle.listings.specs.Bytes.{Bytes}
 use Rattle.listings.specs.Places.{count_before, At}
 use Rattle.listings.proofs.Ranks.{at_rank, rank_below, place-is_rank, edge_first}
-use Rattle.listings.proofs.PlaceRules.{at_member}
 use Rattle.set_partitions.specs.declared.edition.Edition.{Edition}
 use Rattle.set_partitions.specs.declared.edition.Edition.TheVariants.{One as one}
 use Rattle.set_partitions.specs.Objects.{is_set_partition, keys, set_partition_before}
 use Rattle.set_partitions.specs.Listing.{others_in, block_of, set_partitions}
 use Rattle.set_partitions.specs.Inner.Keys.{earlier_by, Placed}
-use Rattle.set_partition_ranks.specs.Inner.Ranks.{KeysOf, Written}
+use Rattle.set_partition_ranks.specs.Inner.Ranks.{Numbers, KeysOf, Written}
 use Rattle.set_partitions.proofs.Facts.{keys-long, partition_ends, keys-put_on, take_off}
-use Rattle.set_partitions.proofs.Theorem.{counted, lists, long}
+use Rattle.set_partitions.proofs.Theorem.{counted, lists}
 use Rattle.set_partitions.proofs.Places.{at_key, having-is, each_alone_lem}
 
 -- how many come before x
@@ -35,10 +34,6 @@ rank_of e n k x = count_before (set_partition_before e) x (set_partitions e n k)
 -- r is the rank of the partition of n models whose keys these are
 abbrev pub RankBy : Edition → ℕ → ℕ → Bytes → ℕ → Type 0
 RankBy e n k ks r = (x : Bytes) → is_set_partition n k x ≡ true → take n ks ≡ keys 0 x → r ≡ rank_of e n k x
-
--- of n models in k blocks, so many partitions have the last one alone, and so many have it in a given block of the others
-abbrev pub Numbers : ℕ → ℕ → ℕ → ℕ → Type 0
-Numbers n k alone joined = (alone ≡ stirling_of (n - 1) (k - 1)) × (joined ≡ stirling_of (n - 1) k)
 
 -- the key of the last of n models
 abbrev last_of : ℕ → Bytes → ℕ
@@ -99,6 +94,12 @@ ending e m j ks f =
       rank = ap (rank_of e (suc m) (suc j)) whole ∙ place-is_rank (lists e (suc m) (suc j)) _ at;
     }
 
+-- the others are reached, in i blocks at a place, as those of a last model alone and of one in a block are
+pub others_reached : (P : ℕ → ℕ → Type 0) (k c : ℕ) {a j at i : ℕ} → 1 ≤ k → P a (k - 1) → P j k → (c ≡ 0 → at ≡ a) → (0 < c → at ≡ j) → i ≡ others_in (k - 1) c → P at i
+unfolding others_in
+others_reached P k zero some alone joined here there o = rw (o, here refl) alone
+others_reached P k (suc b) some alone joined here there o = let up : suc (k - 1) ≡ k = omega arith in rw (o, there (omega arith), up) joined
+
 -- what is asked of a rank by keys, where there are fewer blocks than models
 pub record Asked (n k : ℕ) (ks : Bytes) : Type 0 where
   pub fewer : k < n
@@ -114,9 +115,6 @@ module _ (e : Edition) {n k : ℕ} {ks : Bytes} (q : Asked n k ks) where
 
   ends : (f : KeysOf n k (take n ks)) → Ending e (n - 1) (k - 1) n k (last_of n ks) ks f.object
   ends = subst₂ (λ n' k'. (f : KeysOf n' k' (take n' ks)) → Ending e (n - 1) (k - 1) n' k' (last_of n ks) ks f.object) (omega (arith, q.fewer)) (omega (arith, some_block)) (ending e (n - 1) (k - 1) ks)
-
-  pub key_upto : last_of n ks ≤ k
-  key_upto = (ends q.keyed).upto
 
   pub rank_fits : {r : ℕ} → RankBy e n k ks r → r < 2 ^ 64
   rank_fits h = omega (arith, h q.keyed.object q.keyed.parted q.keyed.same, below, q.fits)
@@ -230,11 +228,3 @@ pub alone_written : (e : Edition) (n k r : ℕ) (x : Bytes) → n ≤ k → r < 
 alone_written e n k r x h below q =
     let (same, none) = none_before n k r h below in
     record { there = rw q (subst₂ (λ j s. At (set_partitions e n j) (range 1 n) s) same none (edge_first (each_alone_lem e false n))); size = refl; kept = refl }
-
--- what was written has all the places
-module _ {e : Edition} {r n k : ℕ} {x y : Bytes} (w : Written e r n k x y) where
-  pub written_long : length (take n y) ≡ n
-  written_long = long n k (take n y) ((lists e n k).only (take n y) (at_member (set_partitions e n k) r w.there))
-
-  pub written_room : n ≤ length y
-  written_room = places-there n y written_long

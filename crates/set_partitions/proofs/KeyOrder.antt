@@ -15,7 +15,7 @@ use lib.ListN.{take}
 use lib.Seq.{take_at, take-take}
 use borrow.Author.Tests.{lt-ltb, le-ltb, le-leb, lt-leb, eq-eqb, ne_eqb, eqb-true, ltb-true, ltb-false, leb-true, leb-false}
 use Rattle.basics.specs.Sums.{range, sum_over}
-use Rattle.basics.proofs.Bools.{and-true, and_makes, and_fails, or_cases, or_left, or_right}
+use Rattle.basics.proofs.Bools.{and-true, and_makes, and_fails, or_cases, or_left, or_right, true_or_false}
 use Rattle.basics.proofs.Ranges.{length-range, take_range, sum_over-append, between}
 use Rattle.numbers.specs.Numbers.{stirling_of}
 use Rattle.numbers.proofs.Stirlings.{stirling_none, stirling_zero}
@@ -26,22 +26,12 @@ use Rattle.listings.specs.Places.{At, Follows}
 use Rattle.listings.proofs.AscendingRules.{ascending-append}
 use Rattle.listings.proofs.OrderFacts.{Ordered, smaller_ordered, trichotomy, by_irreflexive, by_transitive, by_total, by_snoc}
 use Rattle.listings.proofs.PlaceRules.{at_range, at_member, at_append_left, at_append_right}
-use Rattle.set_partitions.specs.KeyOrder.{Edition, one, two, edition_of, key_before, keys_in_order}
+use Rattle.set_partitions.specs.KeyOrder.{Edition, one, two, key_before, keys_in_order}
 use Rattle.set_partitions.specs.Objects.{is_set_partition, keys, set_partition_before}
 use Rattle.set_partitions.specs.Listing.{others_in, block_of}
 use Rattle.set_partitions.specs.Inner.Keys.{having, earlier_by, Placed}
 use Rattle.set_partitions.specs.Inner.Moves.{opens_late, rest_block, moves, key_beside, key_to}
 use Rattle.set_partitions.proofs.Facts.{key_at, key_new, key_old, partition_cases, keys-long, keys-one, keys-put_on}
-
--- what a number says, as it is tested
-
-pub edition_two : (number : ℕ) → number ≡ 2 → edition_of number ≡ two
-unfolding edition_of
-edition_two number e = rw (eq-eqb number 2 e)
-
-pub edition_one : (number : ℕ) → (number ≡ 2 → ⊥) → edition_of number ≡ one
-unfolding edition_of
-edition_one number e = rw (ne_eqb number 2 e)
 
 -- which of two keys comes first
 
@@ -397,14 +387,27 @@ new_becomes : (up : Bool) (u b m : ℕ) → key_to up u b ≡ 0 → max u b ≡ 
 unfolding block_of others_in
 new_becomes up u b m q all some = rw (q, all) (omega arith, refl)
 
-pub from_new : (up : Bool) (u b : ℕ) → u < b → Becomes up u b (rest_block (not up) b) b
+from_new : (up : Bool) (u b : ℕ) → u < b → Becomes up u b (rest_block (not up) b) b
 from_new true u b h = block_becomes true u b 1 b (rw (lt-ltb u b h, ne_eqb 0 (max u b) (λ z. omega arith)) refl) (omega arith) (omega arith) (omega arith)
 from_new false u b h = block_becomes false u b b b (rw (lt-ltb u b h) (omega arith)) (omega arith) (omega arith) (omega arith)
 
-pub from_rest : (up : Bool) (u b : ℕ) → 1 ≤ b → b ≤ u → b ≡ rest_block up u → Becomes up u b u (u - 1)
+from_rest : (up : Bool) (u b : ℕ) → 1 ≤ b → b ≤ u → b ≡ rest_block up u → Becomes up u b u (u - 1)
 from_rest true u b from upto q = new_becomes true u b u (rw (le-ltb u b upto, eq-eqb b (max u b) (omega arith))) (omega arith) (omega arith)
 from_rest false u b from upto q = new_becomes false u b u (rw (le-ltb u b upto, ne_eqb b 0 (λ z. omega arith)) (omega arith)) (omega arith) (omega arith)
 
-pub from_other : (up : Bool) (u b : ℕ) → 1 ≤ b → b ≤ u → (b ≡ rest_block up u → ⊥) → Becomes up u b (cond up (b + 1) (b - 1)) u
+from_other : (up : Bool) (u b : ℕ) → 1 ≤ b → b ≤ u → (b ≡ rest_block up u → ⊥) → Becomes up u b (cond up (b + 1) (b - 1)) u
 from_other true u b from upto other = block_becomes true u b (b + 1) u (rw (le-ltb u b upto, ne_eqb b (max u b) (λ z. other (omega arith)))) (omega arith) (omega arith) (omega arith)
 from_other false u b from upto other = block_becomes false u b (b - 1) u (rw (le-ltb u b upto, ne_eqb b 0 (λ z. omega arith))) (omega arith) (omega arith) (omega arith)
+
+-- the last block to go to, or another
+from_old : (up : Bool) (u b : ℕ) → 1 ≤ b → b ≤ u → let last = eqb b (rest_block up u) in Becomes up u b (cond last u (cond up (b + 1) (b - 1))) (cond last (u - 1) u)
+from_old up u b from upto = ⊎_elim
+    (λ t. rw t (from_rest up u b from upto (eqb-true b (rest_block up u) t)))
+    (λ f. rw f (from_other up u b from upto (λ q. false≢true (sym f ∙ eq-eqb b (rest_block up u) q))))
+    (true_or_false (eqb b (rest_block up u)))
+
+pub moved_key : (up : Bool) (u b : ℕ) → 1 ≤ b → let last = eqb b (rest_block up u) in Becomes up u b (cond (ltb u b) (rest_block (not up) b) (cond last u (cond up (b + 1) (b - 1)))) (cond (ltb u b) b (cond last (u - 1) u))
+moved_key up u b from =
+    let last = eqb b (rest_block up u) in
+    let P : Bool → Type 0 = λ new. Becomes up u b (cond new (rest_block (not up) b) (cond last u (cond up (b + 1) (b - 1)))) (cond new b (cond last (u - 1) u)) in
+    elim (dec_lt u b) [ yes h ↦ subst P (sym (lt-ltb u b h)) (from_new up u b h) | no h ↦ subst P (sym (le-ltb u b (omega arith))) (from_old up u b from (omega arith)) ]

@@ -1,10 +1,11 @@
 -- Where no key in front of a place can move, the models in front of it are the last partition, or, going back, the first. What a step there makes
 -- of the whole: those behind it keep neighbours. Assumes nothing.
 use mathlib.Core.Path.{◌≡◌, sym, ◌∙◌, ap, subst, subst₂, subst₃}
-use mathlib.Core.Bool.{Bool, true, false, not}
+use mathlib.Core.Bool.{Bool, true, false, not, false≢true}
 use mathlib.Core.List.{[], ◌∷◌, ◌++◌}
 use Prim.Native.Nat.{ℕ, zero, suc, ◌+◌, ◌-◌, ◌≤◌, ◌<◌, max}
 use native.Mathlib.Nat.{add-zero, suc-add, add-suc}
+use native.Mathlib.Decide.{dec_lt}
 use native.Mathlib.Omega.{arith}
 use lib.ListN.{length, take, drop, get_or, set, length-drop}
 use lib.Seq.{take-suc, take-length, drop-length, drop-cons, append_snoc, split_at}
@@ -19,7 +20,7 @@ use Rattle.set_partitions.specs.Objects.{opens, is_set_partition}
 use Rattle.set_partitions.specs.Listing.{others_in, set_partitions}
 use Rattle.set_partitions.specs.Inner.Moves.{opens_late, moves, key_to, used_before, moves_at, FirstMove}
 use Rattle.set_partitions.proofs.Facts.{Opened, opens-cases, partition_cases, key_at, key_found}
-use Rattle.set_partitions.proofs.KeyOrder.{key_listed, Goes, goes, Becomes}
+use Rattle.set_partitions.proofs.KeyOrder.{key_listed, new_stays, Goes, goes, Becomes}
 use Rattle.set_partitions.proofs.Theorem.{others, behind}
 use Rattle.set_partitions.proofs.Places.{none_edge, edge_kept, edge_fits}
 
@@ -94,9 +95,14 @@ seam : {up : Bool} (e : Edition) (n k c d : ℕ) {x y : Bytes} → Beside up (ke
 unfolding set_partitions
 seam e n k c d = beside_seam (others e n k) (behind k)
 
+-- the key of the first model cannot move
+first_moves : (late up : Bool) (r u b : ℕ) → u ≡ 0 → r ≡ 0 → b ≡ 1 → moves late up r u b ≡ true → ⊥
+first_moves late up r u b none here one can = false≢true (sym (rw (none, here, one) (new_stays late up 0 0 (λ q. omega arith))) ∙ can)
+
 -- what the step at place r needs, where the blocks 1 to u are used in front of it, and what it makes
 pub record Turn (e : Edition) (up : Bool) (k r u : ℕ) (x : Bytes) : Type 0 where
   pub few : u ≤ r
+  pub some : 1 ≤ u
   pub from : 1 ≤ get_or x r 0
   pub upto : get_or x r 0 ≤ suc u
   pub moved : (v m : ℕ) → Becomes up u (get_or x r 0) v m → ((m ≤ r) × (m ≡ 0 → r ≡ 0)) × ((y : Bytes) → Edge (not up) (set_partitions e r m) y → Beside up (set_partitions e (length x) k) x (y ++ drop r (set x r v)))
@@ -115,6 +121,7 @@ turn {up} e k r u x o s =
     let to : Goes e up r j (max u b) (key_at u b) = subst (λ l. Goes e up r j l (key_at u b)) all (goes e up r u b j few.0 g.from g.upto (sym all) can) in
     record {
       few = few.0;
+      some = elim (dec_lt 0 u) [ yes h ↦ h | no h ↦ absurd (first_moves (opens_late e up) up r u b (omega arith) (few.1 (omega arith)) (omega (arith, g.from, g.upto)) can) ];
       from = g.from;
       upto = g.upto;
       moved = λ v m a. (

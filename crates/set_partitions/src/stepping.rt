@@ -46,7 +46,7 @@ impl ListingEnd {
 
     // The block beside block b, on the way there.
     fn beside(self, b: u8) -> u8
-        requires { (1 ≤ b) × (b ≤ places) }
+        requires { (1 ≤ b) × (b ≤ places + 1) }
         ensures { result ≡ cond self.up (b + 1) (b - 1) }
     {
         if self.up { b + 1 } else { b - 1 }
@@ -75,26 +75,24 @@ fn block_to_move(end: ListingEnd, object: &[u8]) -> Option<Spot>
     None
 }
 
+// One of two numbers: where nobody can foresee which, both are worked out and the processor has nothing to guess.
+fn pick(first: bool, a: u8, b: u8) -> u8
+    ensures { result ≡ cond first a b }
+{
+    if first { a } else { b }
+}
+
 // A key that moves: from a new block to block 1, or, going back, to the last; from the last block to go to, to a new one; else to the block beside it.
 fn move_key(end: ListingEnd, used: u8, b: u8) -> Moved
-    requires { (1 ≤ b) × ((b ≤ used + 1) × (used ≤ places)) }
+    requires { (1 ≤ b) × ((b ≤ used + 1) × ((1 ≤ used) × (used ≤ places))) }
     ensures { (result.block ≡ block_of (max used b - 1) (key_to end.up used b)) × (result.used ≡ others_in (max used b - 1) (key_to end.up used b)) }
 {
-    if used < b {
-        Moved {
-            block: end.opposite().rest_block(b),
-            used: b,
-        }
-    } else if b == end.rest_block(used) {
-        Moved {
-            block: used,
-            used: used - 1,
-        }
-    } else {
-        Moved {
-            block: end.beside(b),
-            used,
-        }
+    let new = used < b;
+    let last = b == end.rest_block(used);
+    let block = pick(last, used, end.beside(b));
+    Moved {
+        block: pick(new, end.opposite().rest_block(b), block),
+        used: pick(new, b, pick(last, used - 1, used)),
     }
 }
 

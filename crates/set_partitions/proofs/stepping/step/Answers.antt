@@ -24,7 +24,7 @@ turned c = let s = c.in-Some.field-0 in turn c.args.end.edition c.args.k s.place
 pub move_key-moved-requires : goal.move_key-moved-requires
 move_key-moved-requires c =
     let t = turned (goal.at.move_key-moved-requires c).In-Some in
-    (t.from, (omega (arith, t.upto), omega (arith, t.few, c.in-Some.ensures.inside, c.requires.object_len_bound)))
+    (t.from, (omega (arith, t.upto), (t.some, omega (arith, t.few, c.in-Some.ensures.inside, c.requires.object_len_bound))))
 
 pub write-requires-clause-k_in_bounds : goal.write-requires-clause-k_in_bounds
 write-requires-clause-k_in_bounds c =
