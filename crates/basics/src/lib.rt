@@ -17,13 +17,6 @@ pub const FLOORS: u64 = 80;
 // The room that any object needs.
 pub const LONGEST_OBJECT: usize = PLACES as usize;
 
-// A byte as a number.
-pub fn wide(b: u8) -> u64
-    ensures { result ≡ b }
-{
-    u64::from(b)
-}
-
 // The sum of bytes that are few or small.
 #[tactic(auto, using(crate::proofs::Totals::total_is_sum))]
 pub fn sum(bytes: &[u8]) -> u64

@@ -4,7 +4,6 @@ ghost use Rattle.basics.specs.Limits.{places};
 ghost use Rattle.basics.specs.Sums.{total};
 ghost use Rattle.numbers.specs.Numbers.{choose, multinomial_of};
 
-use basics::wide;
 use binomials::{coefficient, coefficient_fits};
 
 // k out of n, where that is below 2^64.
@@ -23,7 +22,7 @@ pub fn of_binomials(counts: &[u8]) -> Option<u64>
     let mut words: u64 = 1;
     let mut length: u64 = 0;
     for c in counts.iter().rev() {
-        let places = wide(*c);
+        let places = u64::from(*c);
         length += places;
         words = words.checked_mul(ways_out_of(length, places)?)?;
     }

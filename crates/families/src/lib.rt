@@ -19,7 +19,6 @@ mod questions;
 mod refusal;
 mod table;
 
-use counting::Count;
 use listings::Step;
 pub use questions::{Call, ask};
 pub use refusal::Refusal;
@@ -113,10 +112,7 @@ pub fn count<'a>(f: Family, lists: Lists<'a>) -> Result<u64, Refusal>
     ensures { ◌≡◌ {A = Said} (counted_as result, []) (respond COUNT f (lent (map (λ x. x.now) lists.entry)) []) }
 {
     let a = questions::asked_of_all(&f, &lists)?;
-    match table::answer(a) {
-        Count::Exactly(objects) => Ok(objects),
-        _ => Err(Refusal::TooMany),
-    }
+    table::answer(a).map_err(|_| Refusal::TooMany)
 }
 
 // FIRST: writes the earliest object.

@@ -146,10 +146,7 @@ pub fn count_fits<'a>(a: Admitted<'a>) -> bool
     if let Kind::SetPartitions = a.kind() {
         return stirlings::stirling_fits(a.family.n, a.family.k);
     }
-    match count(a) {
-        Count::Exactly(_) => true,
-        _ => false,
-    }
+    count(a).is_ok()
 }
 
 // Question 8, unless question 5 refuses. Rank 0 is below the count where the family has an object.
@@ -157,14 +154,13 @@ pub fn count_fits<'a>(a: Admitted<'a>) -> bool
 pub fn is_below_count<'a>(rank: u64, a: Admitted<'a>) -> Result<bool, Refusal>
     ensures { result ≡ below_count rank (count_of a.entry.family.now (lists_of a.entry)) }
 {
-    if rank != 0 {
-        let Count::Exactly(count) = count(a) else {
-            return Err(Refusal::TooMany);
+    if rank == 0 {
+        return if count_fits(a) {
+            Ok(has_object(a))
+        } else {
+            Err(Refusal::TooMany)
         };
-        return Ok(rank < count);
     }
-    if !count_fits(a) {
-        return Err(Refusal::TooMany);
-    }
-    Ok(has_object(a))
+    let count = count(a).map_err(|_| Refusal::TooMany)?;
+    Ok(rank < count)
 }

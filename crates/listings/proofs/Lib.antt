@@ -15,5 +15,4 @@ pub mod Uniqueness
 pub mod Standing
 pub mod Demand
 pub mod Walks
-pub mod Fills
 pub mod Stepping

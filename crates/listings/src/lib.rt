@@ -1,7 +1,7 @@
 // What every kind of family shares in code: the answer of a step, the parts of an object that start over, and whether two objects are the same.
 #![tactic(auto)]
 
-ghost use Rattle.std.specs.Prelude.{◌≡◌, ◌+◌, ◌≤◌, length, replicate, take};
+ghost use Rattle.std.specs.Prelude.{◌≡◌, ◌+◌, ◌≤◌, length, take};
 ghost use Rattle.basics.specs.Limits.{longest_object};
 ghost use Rattle.basics.specs.Sums.{range};
 ghost use Rattle.listings.specs.Bytes.{same as same_bytes};
@@ -25,21 +25,6 @@ pub fn fill_up(part: &mut [u8], from: u8)
     for (i, place) in part.iter_mut().enumerate() {
         *place = from + i as u8;
     }
-}
-
-// Writes one value into all of the part.
-pub fn fill_with(part: &mut [u8], value: u8)
-    ensures { part.new ≡ replicate (length part.old) value }
-{
-    part.fill(value);
-}
-
-// Writes the bytes of another slice of the same length into the part.
-pub fn copy(part: &mut [u8], from: &[u8])
-    requires { length part.old ≡ length from.now }
-    ensures { part.new ≡ from.now }
-{
-    part.copy_from_slice(from);
 }
 
 // Are two slices of one length the same?

@@ -13,87 +13,83 @@ ghost use Rattle.basics.specs.Limits.{places};
 
 use basics::{LONGEST_OBJECT, PLACES};
 use counting::{Count, CountError};
-use std::io;
+use std::{fmt, io};
 use test_support::{Numbers, behind, cut, each_line, read_input, text};
 
 // The rows within the limits, and one beyond them.
 const ROWS: u64 = PLACES + 2;
 
-// The counts of one number or two, by the letter that their names begin with.
+// A count that is asked for, all but the multinomials.
 #[derive(Clone, Copy)]
-enum Counted {
-    Binomial,
-    Stirling,
-    Partitions,
-    Factorial,
-    Derangement,
-    Catalan,
+enum Question {
+    Binomial { n: u64, k: u64 },
+    Stirling { n: u64, k: u64 },
+    Partitions { n: u64, k: u64, floor: u64 },
+    Factorial { n: u64 },
+    Catalan { n: u64 },
+    Derangement { n: u64 },
 }
 
-// The count whose name begins with the letter.
-fn counted_by(letter: u8) -> Counted {
-    match letter {
-        b'b' => Counted::Binomial,
-        b's' => Counted::Stirling,
-        b'p' => Counted::Partitions,
-        b'f' => Counted::Factorial,
-        b'd' => Counted::Derangement,
-        _ => Counted::Catalan,
+impl Question {
+    // The question whose name begins with the letter; only partitions have a floor.
+    fn new(letter: u8, n: u64, k: u64, floor: u64) -> Question {
+        match letter {
+            b'b' => Question::Binomial { n, k },
+            b's' => Question::Stirling { n, k },
+            b'p' => Question::Partitions { n, k, floor },
+            b'f' => Question::Factorial { n },
+            b'd' => Question::Derangement { n },
+            _ => Question::Catalan { n },
+        }
+    }
+
+    fn count(self) -> Count {
+        match self {
+            Question::Binomial { n, k } => counting::subset_count(n, k),
+            Question::Stirling { n, k } => counting::stirling(n, k),
+            Question::Partitions { n, k, floor } => counting::partitions(floor, n, k),
+            Question::Factorial { n } => counting::factorial(n),
+            Question::Catalan { n } => counting::catalan(n),
+            Question::Derangement { n } => counting::derangement(n),
+        }
+    }
+}
+
+// The floor is said where it isn't 1.
+impl fmt::Display for Question {
+    fn fmt<W: fmt::Write>(&self, f: &mut fmt::Formatter<W>) -> fmt::Result {
+        match *self {
+            Question::Binomial { n, k } => write!(f, "binomial {n} {k}"),
+            Question::Stirling { n, k } => write!(f, "stirling {n} {k}"),
+            Question::Partitions { n, k, floor: 1 } => write!(f, "partitions {n} {k}"),
+            Question::Partitions { n, k, floor } => write!(f, "partitions {n} {k} {floor}"),
+            Question::Factorial { n } => write!(f, "factorial {n}"),
+            Question::Catalan { n } => write!(f, "catalan {n}"),
+            Question::Derangement { n } => write!(f, "derangement {n}"),
+        }
     }
 }
 
 // What ends every line.
-fn answer(rt: &impl Print, count: Count) -> io::Result<()> {
-    match count {
+fn answer(rt: &impl Print, c: Count) -> io::Result<()> {
+    match c {
         Ok(v) => println!(rt; ": {v}"),
         Err(CountError::TooLarge) => println!(rt; ": too large"),
         Err(CountError::Outside) => println!(rt; ": outside"),
     }
 }
 
-// Only partitions have a floor.
-fn count(counted: Counted, n: u64, k: u64, floor: u64) -> Count {
-    match counted {
-        Counted::Binomial => counting::subset_count(n, k),
-        Counted::Stirling => counting::stirling(n, k),
-        Counted::Partitions => counting::partitions(floor, n, k),
-        Counted::Factorial => counting::factorial(n),
-        Counted::Derangement => counting::derangement(n),
-        Counted::Catalan => counting::catalan(n),
-    }
-}
-
-fn name(counted: Counted) -> &'static str {
-    match counted {
-        Counted::Binomial => "binomial",
-        Counted::Stirling => "stirling",
-        Counted::Partitions => "partitions",
-        Counted::Factorial => "factorial",
-        Counted::Derangement => "derangement",
-        Counted::Catalan => "catalan",
-    }
-}
-
-fn one(rt: &impl Print, counted: Counted, n: u64) -> io::Result<()> {
-    print!(rt; "{} {n}", name(counted))?;
-    answer(rt, count(counted, n, 0, 1))
-}
-
-fn two(rt: &impl Print, counted: Counted, n: u64, k: u64) -> io::Result<()> {
-    print!(rt; "{} {n} {k}", name(counted))?;
-    answer(rt, count(counted, n, k, 1))
-}
-
-fn three(rt: &impl Print, counted: Counted, n: u64, k: u64, floor: u64) -> io::Result<()> {
-    print!(rt; "{} {n} {k} {floor}", name(counted))?;
-    answer(rt, count(counted, n, k, floor))
+fn ask(rt: &impl Print, question: Question) -> io::Result<()> {
+    print!(rt; "{question}")?;
+    answer(rt, question.count())
 }
 
 // The two ways to a binomial; a line only where they differ, so none is expected.
 fn agree(rt: &impl Print, n: u64, k: u64) -> io::Result<()> {
-    if counting::coefficient(n, k) != counting::subset_count(n, k) {
+    let c = counting::coefficient(n, k);
+    if c != counting::subset_count(n, k) {
         print!(rt; "coefficient {n} {k}")?;
-        answer(rt, counting::coefficient(n, k))?;
+        answer(rt, c)?;
     }
     Ok(())
 }
@@ -104,14 +100,14 @@ fn rows(rt: &impl Print, n: u64) -> io::Result<()>
 {
     for k in 0..n + 2 {
         agree(rt, n, k)?;
-        two(rt, Counted::Binomial, n, k)?;
-        two(rt, Counted::Stirling, n, k)?;
-        two(rt, Counted::Partitions, n, k)?;
-        three(rt, Counted::Partitions, n, k, 2)?;
+        ask(rt, Question::Binomial { n, k })?;
+        ask(rt, Question::Stirling { n, k })?;
+        ask(rt, Question::Partitions { n, k, floor: 1 })?;
+        ask(rt, Question::Partitions { n, k, floor: 2 })?;
     }
-    one(rt, Counted::Factorial, n)?;
-    one(rt, Counted::Catalan, n)?;
-    one(rt, Counted::Derangement, n)
+    ask(rt, Question::Factorial { n })?;
+    ask(rt, Question::Catalan { n })?;
+    ask(rt, Question::Derangement { n })
 }
 
 // A multinomial, of one letter more than there are places at the most.
@@ -121,12 +117,12 @@ fn word(rt: &impl Print, section: &[u8]) -> io::Result<()> {
     answer(rt, counting::multinomial(&counts[..len]))
 }
 
-// A line of the input: the text is printed, and what it asks for is answered.
+// A line of the input: the text to print, which begins with the question's letter, a colon, and the numbers.
 fn edge(rt: &impl Print, line: &[u8]) -> io::Result<()> {
-    let letter = line.first().copied().unwrap_or(b'\n');
     let (label, marked) = cut(line, b':');
     text(rt, label)?;
     let section = behind(marked, b':');
+    let letter = line.first().copied().unwrap_or(b'\n');
     if letter == b'm' {
         return word(rt, section);
     }
@@ -134,7 +130,7 @@ fn edge(rt: &impl Print, line: &[u8]) -> io::Result<()> {
     let n = numbers.number();
     let k = numbers.number();
     let floor = numbers.number();
-    answer(rt, count(counted_by(letter), n, k, floor))
+    answer(rt, Question::new(letter, n, k, floor).count())
 }
 
 fn main(rt: HostRuntime) -> io::Result<()> {
