@@ -9,7 +9,7 @@ use Rattle.numbers.proofs.Triangles.{row}
 use Rattle.numbers.proofs.Weighted.{step}
 use Rattle.numbers.proofs.Binomials.{pascal_weighted}
 use Rattle.binomials.specs.declared.factorials.TheConstants.{ODDS, INVERSES, TWOS, LAST_COLUMNS}
-use Rattle.binomials.proofs.Rows.{holds, tests, every}
+use Rattle.numbers.proofs.WeightedTests.{holds, tests, every}
 
 -- the factors 2 of the two factorials that divide, those of k out of n, and the number that these and the odd parts make
 abbrev pub taken : ℕ → ℕ → ℕ
@@ -36,7 +36,7 @@ unfoldable right : ℕ → ℕ → ℕ → Bool
 right n k c =
     leb (taken n k) (get_or TWOS n 0) && (ltb (carries n k) 64 && judged (ltb c (2 ^ 64)) (within n k) (eqb (made_of n k) c))
 
-tested : tests right (λ k. 1) (suc places) 0 (row choose 0) ≡ true
+tested : tests (λ k. 1) right (suc places) 0 (row choose 0) ≡ true
 unfolding tests holds right judged within step row range choose
 tested = refl
 
@@ -67,4 +67,4 @@ read n k h =
 
 pub made_of_lem : (n k : ℕ) → n ≤ places → k ≤ n → Made n k
 made_of_lem n k h b =
-    read n k (ap (λ (i : ℕ). right i k (choose i k)) (sym (zero-add n)) ∙ every right (λ j. 1) choose pascal_weighted (suc places) 0 n k tested (omega arith) (omega arith))
+    read n k (ap (λ (i : ℕ). right i k (choose i k)) (sym (zero-add n)) ∙ every (λ j. 1) choose pascal_weighted right (suc places) 0 tested n k (omega arith) (omega arith))

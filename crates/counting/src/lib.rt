@@ -104,7 +104,7 @@ pub fn catalan(n: u64) -> Count
     short::catalan(n).ok_or(CountError::TooLarge)
 }
 
-// The same number where it fits, else 0.
+// The same number where it fits, else 0: plain, for ranks, which know that it fits and would have to take an Option apart.
 pub fn catalan_that_fits(n: u64) -> u64
     ensures { result ≡ if_fits (catalan_of n) }
 {
@@ -119,7 +119,7 @@ pub fn derangement(n: u64) -> Count
     short::derangement(n).ok_or(CountError::TooLarge)
 }
 
-// The same number where it fits, else 0.
+// The same number where it fits, else 0: plain, for ranks, which know that it fits and would have to take an Option apart.
 pub fn derangement_that_fits(n: u64) -> u64
     ensures { result ≡ if_fits (derangements_of n) }
 {

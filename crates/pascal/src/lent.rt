@@ -3,15 +3,15 @@ ghost use Rattle.std.specs.Prelude.{◌≡◌, ◌+◌, ◌*◌, ◌/◌, ◌≤
 ghost use Rattle.numbers.specs.Numbers.{choose};
 ghost use Rattle.pascal.specs.Inner.Triangle.{last_row, Triangle};
 
-use crate::triangle::PASCAL;
+use crate::triangle::{ENTRIES, PASCAL};
 
 // A static lies in memory that is only read, where a const would be written out on the stack at each use.
-static TABLE: [u64; 2346] = PASCAL;
+static TABLE: [u64; ENTRIES] = PASCAL;
 
 // Rows 0 to 67 of Pascal's triangle, row after row.
 #[derive(Clone, Copy)]
 pub struct Rows<'a> {
-    entries: &'a [u64; 2346],
+    entries: &'a [u64; ENTRIES],
     ghost triangle: { Triangle entries.now },
 }
 

@@ -1,5 +1,8 @@
+// As many entries as rows 0 to 67 have.
+pub const ENTRIES: usize = 2346;
+
 // Rows 0 to 67 of Pascal's triangle ("one constant table of 2,346 numbers"), row after row. Row 67 is the last whose every entry is below 2^64.
-pub const PASCAL: [u64; 2346] = [
+pub const PASCAL: [u64; ENTRIES] = [
     1,
     1,
     1,
