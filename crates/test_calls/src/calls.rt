@@ -37,7 +37,7 @@ pub fn call_of(letter: u8, rank: u64) -> Call {
 
 pub fn hear<'a>(call: Call, case: Case<'a>, object: &mut [u8]) -> Result<Heard, Refusal> {
     let f = case.family;
-    let lists = case.lists;
+    let lists = families::only_counts(case.counts);
     match call {
         Call::Count => families::count(f, lists).map(Heard::Number),
         Call::Rank => families::rank(f, lists, object).map(Heard::Number),
@@ -79,5 +79,5 @@ pub fn name(call: Call) -> &'static str {
 
 // RANK's number, or the largest: no rank is as large, since a rank is below a count that fits.
 pub fn rank_of<'a>(case: Case<'a>, object: &[u8]) -> u64 {
-    families::rank(case.family, case.lists, object).unwrap_or(u64::MAX)
+    families::rank(case.family, families::only_counts(case.counts), object).unwrap_or(u64::MAX)
 }

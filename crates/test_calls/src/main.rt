@@ -32,18 +32,18 @@ mod walks;
 
 use basics::LONGEST_OBJECT;
 use calls::{Heard, answer, call_of, hear, is_put, name};
-use families::{Call, Family, Lists, Refusal};
+use families::{Call, Family, Refusal};
 use std::io;
 use test_families::family;
 use test_support::{Numbers, behind, bytes, cut, each_case, text};
 use walks::{walk, with_object};
 
-// A case's label, its family, and the lists lent beside it.
+// A case's label, its family, and the counts lent beside it.
 #[derive(Clone, Copy)]
 struct Case<'a> {
     label: &'a [u8],
     family: Family,
-    lists: Lists<'a>,
+    counts: &'a [u8],
 }
 
 // How a call's line begins.
@@ -122,7 +122,7 @@ fn one_case(rt: &impl Print, line: &[u8]) -> io::Result<()> {
     let case = Case {
         label,
         family: family(section),
-        lists: families::only_counts(&counts[..letters_lent]),
+        counts: &counts[..letters_lent],
     };
     for letter in letters {
         operation(rt, *letter, rank, case, &mut object[..places])?;

@@ -38,7 +38,8 @@ fn listed<'a>(rt: &impl Print, case: Case<'a>, object: &mut [u8]) -> io::Result<
     let rank = rank_of(case, object);
     print!(rt; ", RANK {rank}, UNRANK")?;
     object.fill(0);
-    let _ = families::unrank(rank, case.family, case.lists, object);
+    let lists = families::only_counts(case.counts);
+    let _ = families::unrank(rank, case.family, lists, object);
     bytes(rt, object)?;
     println!(rt;)
 }

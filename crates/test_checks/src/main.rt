@@ -87,11 +87,9 @@ fn each_list<'a>(
     sections: &[u8],
 ) -> io::Result<()> {
     let mut room = [0u8; ROOM];
-    let mut rest = sections;
-    while !rest.is_empty() {
-        let (section, marked) = cut(rest, b'/');
+    for closed in sections.split_inclusive(|letter| *letter == b'/') {
+        let section = closed.strip_prefix(b" ").unwrap_or(closed);
         one_list(rt, f, lists, bytes, section, &mut room)?;
-        rest = behind(marked, b'/');
     }
     Ok(())
 }

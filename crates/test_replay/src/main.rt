@@ -14,7 +14,7 @@
 #![tactic(auto)]
 
 use basics::LONGEST_OBJECT;
-use families::{Family, Lists};
+use families::Family;
 use std::io;
 use test_families::family;
 use test_support::{Numbers, behind, bytes, cut, each_case, text, within};
@@ -28,14 +28,14 @@ const LONGEST_TRAIL: usize = 4096;
 // What a buffer holds before the calls.
 const UNWRITTEN: u8 = 255;
 
-// A case's label, its calls with a rank beside each, its family and the lists lent beside it.
+// A case's label, its calls with a rank beside each, its family and the counts lent beside it.
 #[derive(Clone, Copy)]
 struct Case<'a> {
     label: &'a [u8],
     calls: &'a [u8],
     ranks: &'a [u64],
     family: Family,
-    lists: Lists<'a>,
+    counts: &'a [u8],
 }
 
 // Replays, and prints what is left in the buffers.
@@ -51,7 +51,7 @@ fn show<'a>(
         case.calls,
         case.ranks,
         case.family,
-        case.lists,
+        families::only_counts(case.counts),
         object,
         answers,
         trail,
@@ -105,7 +105,7 @@ fn one_case(rt: &impl Print, line: &[u8]) -> io::Result<()> {
         calls: &calls[..called],
         ranks: &ranks[..ranked],
         family: family(third),
-        lists: families::only_counts(&counts[..lent]),
+        counts: &counts[..lent],
     };
     record(rt, case, &mut object[..places], behind(fifth, b'/'))
 }

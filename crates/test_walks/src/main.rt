@@ -167,11 +167,9 @@ fn one_leg<'a>(rt: &impl Print, walk: Walk, first: Lists<'a>, leg: &[u8]) -> io:
 // Every leg, the next one behind a semicolon.
 fn legs<'a>(rt: &impl Print, begun: Walk, first: Lists<'a>, line: &[u8]) -> io::Result<Walk> {
     let mut walk = begun;
-    let mut rest = line;
-    while !rest.is_empty() {
-        let (leg, behind_leg) = cut(rest, b';');
-        walk = one_leg(rt, walk, first, leg)?;
-        rest = behind(behind_leg, b';');
+    for closed in line.split_inclusive(|letter| *letter == b';') {
+        let (leg, _) = cut(closed, b';');
+        walk = one_leg(rt, walk, first, leg.strip_prefix(b" ").unwrap_or(leg))?;
     }
     Ok(walk)
 }

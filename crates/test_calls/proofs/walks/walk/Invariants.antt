@@ -6,4 +6,4 @@ abbrev pub invariant-loop-met : goal.invariant-loop-met
 invariant-loop-met g l = length l.object ≡ length l.initial.object
 
 abbrev pub decreases-loop-met : goal.decreases-loop-met
-decreases-loop-met g l = l.limit - l.met
+decreases-loop-met g l = l.route.limit - l.met
