@@ -14,9 +14,10 @@ use Rattle.listings.specs.Bytes.{Bytes}
 use Rattle.columns.specs.Columns.{blank, column}
 
 -- a column of no place
-pub column_none : (w n : ℕ) → w ≡ 0 → column w n ≡ []
+pub column_none : (x : Bytes) (n : ℕ) → length x ≡ 0 → x ≡ column (length x) n
 unfolding column
-column_none w n e = rw e
+column_none [] n e = refl
+column_none (b ∷ x) n e = absurd (omega arith)
 
 -- a number of one digit, and a longer one, in a column of at least one place
 pub column_digit : (w n : ℕ) → (w ≡ 0 → ⊥) → n < 10 → column w n ≡ replicate (w - 1) blank ++ ((48 + n) ∷ [])
@@ -37,3 +38,6 @@ pub length-column : (w n : ℕ) → length (column w n) ≡ w
 unfolding column
 length-column zero n = refl
 length-column (suc w) n = rw (length-append, length_front (eqb (n / 10) 0) w (column w (n / 10)) (length-column w (n / 10))) (add-one w)
+
+-- a column by its last digit
+pub ruleset column_cases = (column_none, column_digit, column-digits, length-column)

@@ -68,21 +68,31 @@ impl<'a> Text<'a> {
         self.put_word(word);
     }
 
-    // A number, right-justified in width columns: what stands before its last digit, and that digit.
+    // A number, right-justified in width columns.
+    #[tactic(auto, using(crate::proofs::ColumnLaws::column_cases, std::proofs::lemmas::Grind::common_steps))]
     pub fn put_column(&mut self, width: usize, n: u64)
         requires { self.old.len + width ≤ length self.old.buffer.now }
         ensures len { self.new.len ≡ self.old.len + width }
         ensures wrote { Wrote self.old self.new (column width n) }
     {
-        if width == 0 {
-            return;
-        }
-        if n < 10 {
-            self.put_blanks(width - 1);
-            self.put_byte(b'0' + n as u8);
-        } else {
-            self.put_column(width - 1, n / 10);
-            self.put_byte(b'0' + (n % 10) as u8);
-        }
+        let end = self.len + width;
+        fill_column(&mut self.buffer[self.len..end], n);
+        self.len = end;
+    }
+}
+
+// A number, right-justified in the whole part: its last digit, and before it the digits that are left, or blanks.
+#[tactic(auto, using(crate::proofs::ColumnLaws::column_cases, std::proofs::lemmas::Grind::common_steps))]
+fn fill_column(part: &mut [u8], n: u64)
+    ensures { part.new ≡ column (length part.old) n }
+{
+    let Some((last, before)) = part.split_last_mut() else {
+        return;
+    };
+    *last = b'0' + (n % 10) as u8;
+    if n < 10 {
+        before.fill(b' ');
+    } else {
+        fill_column(before, n / 10);
     }
 }
