@@ -4,7 +4,7 @@ use mathlib.Core.Path.{◌≡◌, refl, sym, ◌∙◌, ap, subst}
 use mathlib.Core.Bool.{true}
 use mathlib.Core.List.{List, [], ◌∷◌, ◌++◌, append-nil}
 use Prim.Native.Nat.{ℕ, suc, ◌+◌, ◌-◌, ◌*◌, ◌/◌, ◌≤◌, ◌<◌}
-use native.Mathlib.Nat.{pos_of_ne-zero, sub_self, zero-add, add-zero, add_assoc}
+use native.Mathlib.Nat.{pos_of_ne-zero, zero-add, add-zero, add_assoc}
 use native.Mathlib.Numerals.{add-one}
 use native.Mathlib.Omega.{arith}
 use lib.ListN.{length, take, drop, get_or, set, length-set, length-drop}
@@ -121,10 +121,6 @@ pub record Written (all : List ℕ) (rank : ℕ) (counts : List ℕ) (size words
   pub below : rest < words
   pub within : rest ≤ rank
   pub front : Front all (take i x) (rank - rest) counts
-
-pub write_none : (all : List ℕ) (x : Bytes) {words rank : ℕ} → total all ≤ places → length x ≡ total all → words ≡ multinomial_of all → rank < words → Written all rank all (length x) words x rank 0
-write_none all x {rank} s l w h =
-    record { left = record { sized = omega arith; short = omega arith; counted = w }; inside = omega arith; behind = omega arith; below = h; within = omega arith; front = rw sub_self (no_front all) }
 
 -- the letter at place a of the counts, whose words the rank falls into: `among` is the rank among these
 module _ {all counts : List ℕ} {x : Bytes} {rank size words rest i : ℕ} (so : Written all rank counts size words x rest i) (a among : ℕ)

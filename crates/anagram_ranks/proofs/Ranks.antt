@@ -1,9 +1,9 @@
 -- Where a word stands that starts with a given letter: behind the words that start with an earlier one, which are the share s / m of all
--- that the letters in front of it have. And the share as it is computed and searched. Assumes nothing.
+-- that the letters in front of it have. And the share as it is computed. Assumes nothing.
 use mathlib.Core.Path.{◌≡◌, refl, sym, ◌∙◌, ap}
 use mathlib.Core.List.{List, [], ◌∷◌, ◌++◌}
 use Prim.Native.Nat.{ℕ, zero, suc, ◌+◌, ◌-◌, ◌*◌, ◌/◌, ◌%◌, ◌≤◌, ◌<◌}
-use native.Mathlib.Nat.{add-zero, zero-add, add-suc, suc-add, mul_comm, mul_right_comm, add-mul, mul-add, div-add-mod', mul-add-div_right, mul-div_cancel, add-mul-div_right, div-le_of_le-mul, mul-le-mul, mul-le-mul_left, mod-lt, le_of_lt, lt_of_lt_of_le, le_trans}
+use native.Mathlib.Nat.{add-zero, zero-add, add-suc, suc-add, mul_comm, mul_right_comm, add-mul, mul-add, div-add-mod', mul-add-div_right, mul-div_cancel, add-mul-div_right}
 use native.Mathlib.Omega.{arith}
 use lib.ListN.{length, take, drop, get_or, set, length-take}
 use lib.Seq.{take-append_seam, get_or-take}
@@ -74,12 +74,6 @@ share_more cs a h = rw (total_take_more cs a (left-inside cs a h), mul-add, ← 
 
 pub share_parts : (words s m : ℕ) → 0 < m → words / m * s + words % m * s / m ≡ words * s / m
 share_parts words s m h = sym (mul-add-div_right h _ _) ∙ rw (mul_right_comm (words / m) s m, ← add-mul, div-add-mod')
-
-pub share_fits : (words s m : ℕ) → 0 < m → s ≤ m → words / m * s + words % m * s / m ≤ words
-share_fits words s m h k = rw (share_parts words s m h) (div-le_of_le-mul m (rw (mul_comm m words) (mul-le-mul_left words k)))
-
-pub rest_le : (words s m n : ℕ) → 0 < m → s ≤ m → m ≤ n → words % m * s ≤ n * n
-rest_le words s m n h k l = mul-le-mul (le_of_lt (lt_of_lt_of_le (mod-lt words h) l)) (le_trans k l)
 
 -- some of the letters
 pub ruleset some_letters = (total-take-le, total_take_more)

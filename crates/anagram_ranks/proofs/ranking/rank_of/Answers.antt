@@ -6,12 +6,6 @@ use Rattle.anagram_ranks.proofs.ranking.rank_of.Goals as goal
 pub loop-letter-init : goal.loop-letter-init
 loop-letter-init c = let p = c.requires in read_none _ _ p.counts_bound p.object_value p.words_value
 
-pub invariant_of-left : goal.invariant_of-left
-invariant_of-left c = let k = c.loop-letter.invariant.left in record { sized = k.sized; short = k.short; counted = k.counted }
-
-pub invariant_of-left-in-loop-letter : goal.invariant_of-left-in-loop-letter
-invariant_of-left-in-loop-letter c = let k = c.loop-letter.invariant.left in record { sized = k.sized; short = k.short; counted = k.counted }
-
 pub overflow_sub-place : goal.overflow_sub-place
 overflow_sub-place c = (first_of_rest c.loop-letter.invariant _ c.from-place.ensures c.loop-letter-test.true).0
 

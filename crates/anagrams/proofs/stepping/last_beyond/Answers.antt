@@ -1,5 +1,5 @@
 -- Behind the end there is no letter, and the one that is tested is not preceded by the pivot's.
-use Rattle.std.proofs.Common.{arith, sym, ◌≡◌, ◌+◌, ◌-◌}
+use Rattle.std.proofs.Common.{arith, sym, ◌-◌}
 use Rattle.anagrams.proofs.Neighbours.{beyond_none, beyond_more}
 use Rattle.anagrams.proofs.stepping.last_beyond.Goals as goal
 
@@ -10,6 +10,3 @@ pub loop-place-preserved : goal.loop-place-preserved
 loop-place-preserved c =
     let l = c.loop-place in
     record { behind = omega arith; none = beyond_more _ _ _ (l.place - 1) l.place (omega arith) (omega arith) (sym c.if-precedes.ensures) l.invariant.none }
-
-pub returns-clause-none_beyond : goal.returns-clause-none_beyond
-returns-clause-none_beyond c = let l = c.loop-place in let end : l.place ≡ c.args.pivot + 1 + 1 = omega arith in rw end at l.invariant.none
