@@ -107,12 +107,12 @@ pub fn rank_below<'a>(rank: u64, f: Family, lists: Lists<'a>) -> Result<(), Refu
 }
 
 // COUNT: how many objects the family has.
-#[tactic(auto, using(crate::proofs::FamilyFacts::admits, crate::proofs::Passing::refused_at_once, crate::proofs::Responses::count_said, crate::proofs::Responses::count_refused), unfolding(counting::specs::Answers::fits))]
+#[tactic(auto, using(crate::proofs::FamilyFacts::admits, crate::proofs::Passing::refused_at_once, crate::proofs::Responses::count_said, crate::proofs::Responses::count_refused))]
 pub fn count<'a>(f: Family, lists: Lists<'a>) -> Result<u64, Refusal>
     ensures { ◌≡◌ {A = Said} (counted_as result, []) (respond COUNT f (lent (map (λ x. x.now) lists.entry)) []) }
 {
     let a = questions::asked_of_all(&f, &lists)?;
-    table::answer(a).map_err(|_| Refusal::TooMany)
+    table::answer(a).ok_or(Refusal::TooMany)
 }
 
 // FIRST: writes the earliest object.

@@ -1,5 +1,5 @@
 // The table of families in code: bounds, lists, lengths and counts, by kind.
-ghost use Rattle.std.specs.Prelude.{◌≡◌, ◌&&◌, ◌||◌, map, ◌^◌, leb, ltb, eqb};
+ghost use Rattle.std.specs.Prelude.{◌≡◌, ◌&&◌, ◌||◌, map, ◌^◌, ◌<◌, leb, ltb, eqb, SomeIff};
 ghost use Rattle.counting.specs.Answers.{fits as fits_of};
 ghost use Rattle.families.specs.Table.{lent};
 ghost use Rattle.families.specs.Families.{row, is_kind, in_table, floor_fits, edition_fits, lists_fit, object_length, count_of};
@@ -108,8 +108,8 @@ pub fn object_length<'a>(a: Admitted<'a>) -> u64
     }
 }
 
-// The count, exact or too large.
-fn count<'a>(a: Admitted<'a>) -> Count
+// The count as the crate `counting` answers it: exact or too large.
+fn counted<'a>(a: Admitted<'a>) -> Count
     ensures { result ≡ fits_of (count_of a.entry.family.now (lists_of a.entry)) }
 {
     let counts = a.lists[0];
@@ -126,19 +126,27 @@ fn count<'a>(a: Admitted<'a>) -> Count
     }
 }
 
-// The count as COUNT answers it: of subsets from paper 01's table, which every other call does without.
-pub fn answer<'a>(a: Admitted<'a>) -> Count
-    ensures { result ≡ fits_of (count_of a.entry.family.now (lists_of a.entry)) }
+// The count, if it is below 2^64. An Option is handed back in registers, and an answer of `counting`, whose error is an enum, through memory.
+#[tactic(auto, unfolding(counting::specs::Answers::fits))]
+fn count<'a>(a: Admitted<'a>) -> Option<u64>
+    ensures { let count = count_of a.entry.family.now (lists_of a.entry) in SomeIff result (count < 2 ^ 64) count }
+{
+    counted(a).ok()
+}
+
+// The count as COUNT answers it: of subsets from the table of constants, which every other call does without.
+#[tactic(auto, unfolding(counting::specs::Answers::fits))]
+pub fn answer<'a>(a: Admitted<'a>) -> Option<u64>
+    ensures { let count = count_of a.entry.family.now (lists_of a.entry) in SomeIff result (count < 2 ^ 64) count }
 {
     match a.kind() {
-        Kind::Subsets => counting::subset_count(a.family.n, a.family.k),
+        Kind::Subsets => counting::subset_count(a.family.n, a.family.k).ok(),
         _ => count(a),
     }
 }
 
 // Question 5. For a Stirling number its place in the triangle tells: to work the number out would take as long as a rank. A RANK that this is taken into is some
 // 20 instructions shorter.
-#[tactic(auto, unfolding(counting::specs::Answers::fits))]
 #[inline]
 pub fn count_fits<'a>(a: Admitted<'a>) -> bool
     ensures { result ≡ ltb (count_of a.entry.family.now (lists_of a.entry)) (2 ^ 64) }
@@ -146,11 +154,11 @@ pub fn count_fits<'a>(a: Admitted<'a>) -> bool
     if let Kind::SetPartitions = a.kind() {
         return stirlings::stirling_fits(a.family.n, a.family.k);
     }
-    count(a).is_ok()
+    count(a).is_some()
 }
 
 // Question 8, unless question 5 refuses. Rank 0 is below the count where the family has an object.
-#[tactic(auto, using(crate::proofs::FamilyFacts::has_object_lem), unfolding(counting::specs::Answers::fits))]
+#[tactic(auto, using(crate::proofs::FamilyFacts::has_object_lem))]
 pub fn is_below_count<'a>(rank: u64, a: Admitted<'a>) -> Result<bool, Refusal>
     ensures { result ≡ below_count rank (count_of a.entry.family.now (lists_of a.entry)) }
 {
@@ -161,6 +169,6 @@ pub fn is_below_count<'a>(rank: u64, a: Admitted<'a>) -> Result<bool, Refusal>
             Err(Refusal::TooMany)
         };
     }
-    let count = count(a).map_err(|_| Refusal::TooMany)?;
+    let count = count(a).ok_or(Refusal::TooMany)?;
     Ok(rank < count)
 }

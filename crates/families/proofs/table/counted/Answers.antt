@@ -1,4 +1,4 @@
--- `families::table::count`: each arm asks the crate `counting` within its limits, which the table keeps to.
+-- `families::table::counted`: each arm asks the crate `counting` within its limits, which the table keeps to.
 use lib.Dec.{leb}
 use lib.ListN.{get_or-map}
 use Rattle.basics.specs.Limits.{places, branches}
@@ -6,7 +6,7 @@ use Rattle.basics.proofs.Bools.{and-true, and_makes}
 use Rattle.families.proofs.FamilyFacts.{floor_within}
 use Rattle.families.proofs.Dispatch.{given, number_given, sum_fits}
 use Rattle.families.proofs.CountAnswers.{answer-within}
-use Rattle.families.proofs.table.count.Goals as goal
+use Rattle.families.proofs.table.counted.Goals as goal
 
 pub returns-in-Subsets : goal.returns-in-Subsets
 returns-in-Subsets c = let t = given c.args.a c.kind.ensures c.in-Subsets.is in answer-within c.coefficient.ensures t.bounds t.counted
