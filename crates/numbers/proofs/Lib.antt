@@ -6,7 +6,6 @@ pub mod Factorials
 pub mod Laws
 pub mod Multinomials
 pub mod PartitionLaws
-pub mod Past
 pub mod Positive
 pub mod Stirlings
 pub mod Tables

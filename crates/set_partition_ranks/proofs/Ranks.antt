@@ -67,11 +67,14 @@ unfolding others_in
 others_fewer n k zero = stirling_grows_both n k
 others_fewer n k (suc b) = stirling_grows n k
 
+pub others_within : (n k c : ℕ) → 1 ≤ k → k < n → stirling_of (n - 1) (others_in (k - 1) c) ≤ stirling_of n k
+others_within n k c some fewer =
+    subst₂ (λ n' k'. stirling_of (n - 1) (others_in (k - 1) c) ≤ stirling_of n' k') (omega arith) (omega arith) (others_fewer (n - 1) (k - 1) c)
+
 -- x is the partition of n models in k blocks whose keys these are, c the key of its last model, and this the rest of it: m is n - 1, and j is k - 1
 record Ending (e : Edition) (m j n k c : ℕ) (ks x : Bytes) : Type 0 where
   upto : c ≤ k
   others : KeysOf m (others_in j c) (take m ks)
-  fewer : stirling_of m (others_in j c) ≤ stirling_of n k
   rank : rank_of e n k x ≡ earlier_by e k c (stirling_of m j) (stirling_of m k) + rank_of e m (others_in j c) others.object
 
 ending : (e : Edition) (m j : ℕ) (ks : Bytes) (f : KeysOf (suc m) (suc j) (take (suc m) ks)) → Ending e m j (suc m) (suc j) (get_or ks m 0) ks f.object
@@ -90,7 +93,6 @@ ending e m j ks f =
         parted = t.front;
         same = sym (take-take m (suc m) ks (omega arith)) ∙ ap (take m) all ∙ take_at (keys 0 p.front) (t.key ∷ []) m size;
       };
-      fewer = others_fewer m j t.key;
       rank = ap (rank_of e (suc m) (suc j)) whole ∙ place-is_rank (lists e (suc m) (suc j)) _ at;
     }
 
@@ -130,9 +132,6 @@ module _ (e : Edition) {n k : ℕ} {ks : Bytes} (q : Asked n k ks) where
   -- by the others, in i blocks
 
   module _ {i : ℕ} (o : i ≡ others_in (k - 1) (last_of n ks)) where
-    pub others_fit : stirling_of (n - 1) i < 2 ^ 64
-    others_fit = rw o (omega (arith, (ends q.keyed).fewer, q.fits))
-
     pub others_keyed : KeysOf (n - 1) i (take (n - 1) ks)
     others_keyed = rw o (ends q.keyed).others
 
@@ -161,7 +160,6 @@ front_written e m v s i x y room w =
 pub record Put (e : Edition) (m j n k r : ℕ) (x : Bytes) (c s : ℕ) : Type 0 where
   pub upto : c ≤ k
   below : s < stirling_of m (others_in j c)
-  fewer : stirling_of m (others_in j c) ≤ stirling_of n k
   pub alone : (v : ℕ) → take m (set x m v) ≡ range 1 m
   all : (y : Bytes) → Written e s m (others_in j c) (set x m (block_of j c)) y → Written e r n k x y
 
@@ -171,7 +169,6 @@ put e m j r c s x alone p =
     record {
       upto = p.upto;
       below = omega (arith, p.within, having-is m j c);
-      fewer = others_fewer m j c;
       alone = λ v. take-set-le m x m v (omega arith) ∙ sym (take-take m (suc m) x (omega arith)) ∙ ap (take m) alone ∙ take_range 1 (suc m) m (omega arith);
       all = λ y w.
           let (front, rest) = front_written e m (block_of j c) s (others_in j c) x y room w in
@@ -216,9 +213,6 @@ module _ {n k r : ℕ} {x : Bytes} (q : ToWrite n k r x) where
 module _ {e : Edition} {m j n k r c s i : ℕ} {x : Bytes} (p : Put e m j n k r x c s) (o : i ≡ others_in j c) where
   pub rest_below : s < stirling_of m i
   rest_below = rw o p.below
-
-  pub rest_fits : stirling_of n k < 2 ^ 64 → stirling_of m i < 2 ^ 64
-  rest_fits h = rw o (omega (arith, p.fewer))
 
   pub written : {v : ℕ} {y : Bytes} → v ≡ block_of j c → Written e s m i (set x m v) y → Written e r n k x y
   written {y} l w = p.all y (subst₂ (λ i' v'. Written e s m i' (set x m v') y) o l w)

@@ -1,7 +1,5 @@
 // What the key of the last model says: the ranks know the order of the keys, and what follows from a key, only from here.
 ghost use Rattle.std.specs.Prelude.{◌≡◌, ◌+◌, ◌-◌, ◌*◌, ◌/◌, ◌%◌, ◌≤◌, ◌<◌, ◌^◌};
-ghost use Rattle.basics.specs.Limits.{places};
-ghost use Rattle.set_partitions.specs.Listing.{others_in, block_of};
 ghost use Rattle.set_partitions.specs.Inner.Keys.{earlier_by, Placed};
 
 use set_partitions::Edition;
@@ -94,22 +92,4 @@ impl Split {
         };
         at - back
     }
-}
-
-// In how many blocks the others are, where all are in k.
-#[tactic(auto, unfolding(set_partitions::specs::Listing::others_in))]
-pub fn others_in(k: u64, key: u64) -> u64
-    requires { 0 < k }
-    ensures { result ≡ others_in (k - 1) key }
-{
-    if key == 0 { k - 1 } else { k }
-}
-
-// The block of the last model.
-#[tactic(auto, unfolding(set_partitions::specs::Listing::block_of))]
-pub fn block_of(k: u64, key: u64) -> u8
-    requires { (0 < k) × ((k ≤ places) × (key ≤ k)) }
-    ensures { result ≡ block_of (k - 1) key }
-{
-    if key == 0 { k as u8 } else { key as u8 }
 }

@@ -15,13 +15,14 @@ ghost use Rattle.set_partition_ranks.specs.Inner.Ranks.{Written, KeysOf};
 
 mod keys;
 mod last_key;
+mod size;
 mod sources;
 
 use basics::LONGEST_OBJECT;
 use keys::keys_of;
-use last_key::{block_of, others_in};
 use listings::fill_up;
 use set_partitions::Edition;
+use size::Size;
 use sources::{Band, Source, Stored};
 use stirling_rows::LAST_ROW;
 use stirlings::CAPACITY;
@@ -29,33 +30,29 @@ use stirlings::CAPACITY;
 // So few models have their numbers stored.
 const FEW: usize = LAST_ROW as usize;
 
-// By the keys of n models: through the rank of the partition left when the last of them is taken out. With as many blocks as models there is one
+// By the keys of the models: through the rank of the partition left when the last of them is taken out. With as many blocks as models there is one
 // partition.
 fn rank_of<S: Source>(
     edition: Edition,
-    n: usize,
-    k: u64,
+    size: Size,
     keys: &[u8; LONGEST_OBJECT],
     source: S,
     at: usize,
 ) -> u64
-    requires n_le_places { (n ≤ places) × (stirling_of n k < 2 ^ 64) }
-    requires keys_of { KeysOf n k (take n keys.now) }
-    requires reaches { S.reaches source at n k }
-    ensures { (x : Bytes) → is_set_partition n k x ≡ true → take n keys.now ≡ keys_in 0 x → result ≡ count_before (set_partition_before edition) x (set_partitions edition n k) }
+    requires keys_of { KeysOf size.n size.k (take size.n keys.now) }
+    requires reaches { S.reaches source at size.n size.k }
+    ensures { (x : Bytes) → is_set_partition size.n size.k x ≡ true → take size.n keys.now ≡ keys_in 0 x → result ≡ count_before (set_partition_before edition) x (set_partitions edition size.n size.k) }
 {
-    if n as u64 <= k {
+    if size.n as u64 <= size.k {
         return 0;
     }
-    let end = n - 1;
-    let key = u64::from(keys[end]);
-    let split = source.split(at, n, k);
-    let before = split.earlier(edition, k, key);
+    let key = u64::from(keys[size.n - 1]);
+    let split = source.split(at, size);
+    let before = split.earlier(edition, size.k, key);
     before
         + rank_of(
             edition,
-            end,
-            others_in(k, key),
+            size.others(key),
             keys,
             source,
             split.others_at(at, key),
@@ -65,14 +62,13 @@ fn rank_of<S: Source>(
 // The same of many models. Apart, so that no room for a band is made where models are few.
 #[inline(never)]
 #[tactic(auto, using(crate::proofs::Ranks::few_blocks))]
-fn rank_of_many(edition: Edition, n: usize, k: u64, keys: &[u8; LONGEST_OBJECT]) -> u64
-    requires n_le_places { (n ≤ places) × (stirling_of n k < 2 ^ 64) }
-    requires keys_of { KeysOf n k (take n keys.now) }
-    ensures { (x : Bytes) → is_set_partition n k x ≡ true → take n keys.now ≡ keys_in 0 x → result ≡ count_before (set_partition_before edition) x (set_partitions edition n k) }
+fn rank_of_many(edition: Edition, size: Size, keys: &[u8; LONGEST_OBJECT]) -> u64
+    requires { KeysOf size.n size.k (take size.n keys.now) }
+    ensures { (x : Bytes) → is_set_partition size.n size.k x ≡ true → take size.n keys.now ≡ keys_in 0 x → result ≡ count_before (set_partition_before edition) x (set_partitions edition size.n size.k) }
 {
     let mut numbers = [1u64; CAPACITY];
-    let band = Band::of(&mut numbers, n, k);
-    rank_of(edition, n, k, keys, band, band.place_of(n, k))
+    let band = Band::of(&mut numbers, size);
+    rank_of(edition, size, keys, band, band.place_of(size))
 }
 
 // How many partitions come before it, by its keys.
@@ -85,41 +81,38 @@ pub fn rank(edition: u64, k: u64, object: &[u8]) -> u64
     let edition = Edition::from(edition);
     let keys = keys_of(object);
     let n = object.len();
+    let size = Size { n, k };
     if n <= FEW {
-        return rank_of(edition, n, k, &keys, Stored, 0);
+        return rank_of(edition, size, &keys, Stored, 0);
     }
-    rank_of_many(edition, n, k, &keys)
+    rank_of_many(edition, size, &keys)
 }
 
-// The partition of a rank, of n models: the key of the last model, and the partition of the others. The n places have each model in a block of its
-// own, as is right where there are as many blocks as models.
+// The partition of a rank: the key of the last model, and the partition of the others. The places have each model in a block of its own, as is right
+// where there are as many blocks as models.
 fn write<S: Source>(
     edition: Edition,
     rank: u64,
-    n: usize,
-    k: u64,
+    size: Size,
     blocks: &mut [u8; LONGEST_OBJECT],
     source: S,
     at: usize,
 )
-    requires n_le_places { n ≤ places }
-    requires rank_bound { (rank < stirling_of n k) × (stirling_of n k < 2 ^ 64) }
-    requires blocks_value { take n blocks.old ≡ range 1 n }
-    requires reaches { S.reaches source at n k }
-    ensures { Written edition rank n k blocks.old blocks.new }
+    requires rank_bound { rank < stirling_of size.n size.k }
+    requires blocks_value { take size.n blocks.old ≡ range 1 size.n }
+    requires reaches { S.reaches source at size.n size.k }
+    ensures { Written edition rank size.n size.k blocks.old blocks.new }
 {
-    if n as u64 <= k {
+    if size.n as u64 <= size.k {
         return;
     }
-    let end = n - 1;
-    let split = source.split(at, n, k);
-    let last = split.place_at(edition, k, rank);
-    blocks[end] = block_of(k, last.key);
+    let split = source.split(at, size);
+    let last = split.place_at(edition, size.k, rank);
+    blocks[size.n - 1] = size.block_of(last.key);
     write(
         edition,
         last.rank,
-        end,
-        others_in(k, last.key),
+        size.others(last.key),
         blocks,
         source,
         split.others_at(at, last.key),
@@ -128,15 +121,14 @@ fn write<S: Source>(
 
 // The same of many models, apart as for their rank.
 #[inline(never)]
-fn write_many(edition: Edition, rank: u64, n: usize, k: u64, blocks: &mut [u8; LONGEST_OBJECT])
-    requires n_le_places { n ≤ places }
-    requires rank_bound { (rank < stirling_of n k) × (stirling_of n k < 2 ^ 64) }
-    requires blocks_value { take n blocks.old ≡ range 1 n }
-    ensures { Written edition rank n k blocks.old blocks.new }
+fn write_many(edition: Edition, rank: u64, size: Size, blocks: &mut [u8; LONGEST_OBJECT])
+    requires rank_bound { rank < stirling_of size.n size.k }
+    requires blocks_value { take size.n blocks.old ≡ range 1 size.n }
+    ensures { Written edition rank size.n size.k blocks.old blocks.new }
 {
     let mut numbers = [1u64; CAPACITY];
-    let band = Band::of(&mut numbers, n, k);
-    write(edition, rank, n, k, blocks, band, band.place_of(n, k));
+    let band = Band::of(&mut numbers, size);
+    write(edition, rank, size, blocks, band, band.place_of(size));
 }
 
 // Each model in a block of its own.
@@ -158,11 +150,12 @@ pub fn unrank(rank: u64, edition: u64, k: u64, object: &mut [u8])
 {
     let edition = Edition::from(edition);
     let n = object.len();
+    let size = Size { n, k };
     let mut blocks = each_alone();
     if n <= FEW {
-        write(edition, rank, n, k, &mut blocks, Stored, 0);
+        write(edition, rank, size, &mut blocks, Stored, 0);
     } else {
-        write_many(edition, rank, n, k, &mut blocks);
+        write_many(edition, rank, size, &mut blocks);
     }
     object.copy_from_slice(&blocks[..n]);
 }

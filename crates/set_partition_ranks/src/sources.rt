@@ -1,27 +1,27 @@
 // Where a rank reads its numbers: those of few models are stored, and those of many stand in a band that is worked out once a call.
-ghost use Rattle.std.specs.Prelude.{ℕ, ◌+◌, ◌-◌, ◌*◌, ◌^◌, ◌≡◌, ◌≤◌, ◌<◌, replicate};
-ghost use Rattle.basics.specs.Limits.{places};
-ghost use Rattle.numbers.specs.Numbers.{stirling_of};
+ghost use Rattle.std.specs.Prelude.{ℕ, ◌+◌, ◌-◌, ◌*◌, ◌≡◌, ◌≤◌, ◌<◌, replicate};
 ghost use Rattle.stirling_rows.specs.Inner.Stored.{last_row};
 ghost use Rattle.stirlings.specs.Inner.Band.{capacity, Filled, Reaches};
 ghost use Rattle.set_partition_ranks.specs.Inner.Ranks.{Numbers};
 
 use crate::last_key::Split;
+use crate::size::Size;
 use stirling_rows::both;
 use stirlings::{CAPACITY, fill};
 
+// A source of the numbers. A place in it goes with n and k, and is handed on beside it: with these in one struct, calls would pass it through memory.
 pub trait Source: Copy {
-    // It has all that the rank of n models in k blocks reads, and the number of all their partitions stands at a place.
+    // It has all that a rank among the partitions of n models into k blocks reads, and their own number stands at a place.
     ghost reaches: { Self → ℕ → ℕ → ℕ → Type 0 };
 
     // Of n models in k blocks: the partitions with the last one alone, and those with it in a given block of the others.
-    fn split(self, at: usize, n: usize, k: u64) -> Split
-        requires inside { (0 < k) × (k < n) }
-        requires reaches { reaches self at n k }
-        ensures numbers { Numbers n k result.alone result.joined }
+    fn split(self, at: usize, size: Size) -> Split
+        requires inside { (0 < size.k) × (size.k < size.n) }
+        requires reaches { reaches self at size.n size.k }
+        ensures numbers { Numbers size.n size.k result.alone result.joined }
         ensures back { (result.alone_back ≤ at) × (result.joined_back ≤ at) }
-        ensures alone { reaches self (at - result.alone_back) (n - 1) (k - 1) }
-        ensures joined { reaches self (at - result.joined_back) (n - 1) k };
+        ensures alone { reaches self (at - result.alone_back) (size.n - 1) (size.k - 1) }
+        ensures joined { reaches self (at - result.joined_back) (size.n - 1) size.k };
 }
 
 // The numbers that are stored, which n and k find without a place.
@@ -31,8 +31,8 @@ pub struct Stored;
 impl Source for Stored {
     ghost reaches = { λ _ _ n _. n ≤ last_row };
 
-    fn split(self, _at: usize, n: usize, k: u64) -> Split {
-        let numbers = both(n as u64 - 1, k);
+    fn split(self, _at: usize, size: Size) -> Split {
+        let numbers = both(size.n as u64 - 1, size.k);
         Split {
             alone: numbers.fewer,
             joined: numbers.same,
@@ -51,32 +51,32 @@ pub struct Band<'a> {
 }
 
 impl Band<'_> {
-    // The band of all that ranks of n models in k blocks read, worked out in a room of ones.
-    pub fn of(room: &mut [u64; CAPACITY], n: usize, k: u64) -> Band<'_>
-        requires n_le_places { (n ≤ places) × ((k ≤ n) × (stirling_of n k < 2 ^ 64)) }
+    // The band of all that ranks among partitions of a size read, worked out in a room of ones.
+    pub fn of(room: &mut [u64; CAPACITY], size: Size) -> Band<'_>
+        requires many { size.k ≤ size.n }
         requires ones { room.old ≡ replicate capacity 1 }
-        ensures { (result.width ≡ k + 1) × Filled result.numbers.now (k + 1) (n - k + 1) }
+        ensures { (result.width ≡ size.k + 1) × Filled result.numbers.now (size.k + 1) (size.n - size.k + 1) }
     {
-        fill(n as u64, k, room);
+        fill(size.n as u64, size.k, room);
         Band {
             numbers: room,
-            width: k as usize + 1,
+            width: size.k as usize + 1,
         }
     }
 
-    // Where the number of the partitions of n models into k blocks stands, in the band that k blocks need.
-    pub fn place_of(self, n: usize, k: u64) -> usize
-        requires { (k ≤ n) × ((n ≤ places) × (self.width ≡ k + 1)) }
-        ensures { result ≡ (n - k) * (k + 1) + k }
+    // Where their own number stands in it.
+    pub fn place_of(self, size: Size) -> usize
+        requires { (size.k ≤ size.n) × (self.width ≡ size.k + 1) }
+        ensures { result ≡ (size.n - size.k) * (size.k + 1) + size.k }
     {
-        (n - k as usize) * self.width + k as usize
+        (size.n - size.k as usize) * self.width + size.k as usize
     }
 }
 
 impl Source for Band<'_> {
     ghost reaches = { λ band at n k. Reaches band.numbers.now band.width at n k };
 
-    fn split(self, at: usize, _n: usize, _k: u64) -> Split {
+    fn split(self, at: usize, _size: Size) -> Split {
         Split {
             alone: self.numbers[at - 1],
             joined: self.numbers[at - self.width],

@@ -406,6 +406,7 @@ from_old up u b from upto = ⊎_elim
     (λ f. rw f (from_other up u b from upto (λ q. false≢true (sym f ∙ eq-eqb b (rest_block up u) q))))
     (true_or_false (eqb b (rest_block up u)))
 
+-- or a new block
 pub moved_key : (up : Bool) (u b : ℕ) → 1 ≤ b → let last = eqb b (rest_block up u) in Becomes up u b (cond (ltb u b) (rest_block (not up) b) (cond last u (cond up (b + 1) (b - 1)))) (cond (ltb u b) b (cond last (u - 1) u))
 moved_key up u b from =
     let last = eqb b (rest_block up u) in

@@ -35,4 +35,5 @@ unfolding used_before
 first_stays late up x e zero h = rw e (new_stays late up 0 0 (λ q. omega arith))
 first_stays late up x e (suc i) h = absurd (omega arith)
 
+-- all of them, for the search
 pub ruleset search_steps = (moves_new, moves_old, used_before_more, used_before_first, first_stays)

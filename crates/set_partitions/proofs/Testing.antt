@@ -35,4 +35,5 @@ module _ (k u i : ℕ) (x : Bytes) where
   unfolding opens
   all_read h = rw (drop_of_length-le x {i = i} h)
 
+-- all of them, for the test
 pub ruleset test_steps = (wrong_length, right_length, block_wrong, block_read, all_read)

@@ -119,12 +119,7 @@ fn ended(
     }
 }
 
-pub fn walk<'a>(
-    rt: &impl Print,
-    letter: u8,
-    case: Case<'a>,
-    object: &mut [u8],
-) -> io::Result<()> {
+pub fn walk<'a>(rt: &impl Print, letter: u8, case: Case<'a>, object: &mut [u8]) -> io::Result<()> {
     let route = route_of(letter);
     let mut sum = 0;
     let mut met = 0;

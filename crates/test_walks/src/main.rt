@@ -27,9 +27,7 @@ use basics::LONGEST_OBJECT;
 use families::{Lists, Refusal, codes};
 use std::io;
 use test_families::family;
-use test_support::{
-    Numbers, behind, bytes, cut, digest, each_case, mixed, text, within,
-};
+use test_support::{Numbers, behind, bytes, cut, digest, each_case, mixed, text, within};
 use walk::{Stride, Walk};
 
 // The most bytes at a start, more than any object has; the most steps of a leg, and the most room for answers.
@@ -154,14 +152,7 @@ fn one_leg<'a>(rt: &impl Print, walk: Walk, first: Lists<'a>, leg: &[u8]) -> io:
     let room = within(steps.number(), &answers);
     let mut on = [false; MOST];
     let many = ways(&mut steps, &mut on);
-    gone(
-        rt,
-        walk,
-        first,
-        lists,
-        &on[..many],
-        &mut answers[..room],
-    )
+    gone(rt, walk, first, lists, &on[..many], &mut answers[..room])
 }
 
 // Every leg, the next one behind a semicolon.

@@ -2,4 +2,4 @@
 use Rattle.set_partition_ranks.proofs.+rank_of.Given as goal
 
 abbrev pub decreases-rank_of : goal.decreases-rank_of
-decreases-rank_of g l = l.n
+decreases-rank_of g l = l.size.n

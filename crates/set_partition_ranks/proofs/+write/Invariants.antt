@@ -2,4 +2,4 @@
 use Rattle.set_partition_ranks.proofs.+write.Given as goal
 
 abbrev pub decreases-write : goal.decreases-write
-decreases-write g l = l.n
+decreases-write g l = l.size.n
