@@ -30,17 +30,14 @@ telling_left : {A : Type 0} {a : Answer} {left : A} {s : Answer × A} → ◌≡
 telling_left {A} {left = left} said ec er =
     ap {B = ℕ × A} (λ (r : ℕ). (r, left)) (er ∙ ap plain ec) ∙ ap {B = ℕ × A} (λ (s : Answer × A). (plain (code_of s.0), s.1)) said
 
--- b is what `families` reads of the lists, and b' what the caller lent
-module _ {b b' : Lent} (same : b ≡ b') (f : Family) {a : Answer} {y : Bytes} (c : Call) (x : Bytes) (said : ◌≡◌ {A = Said} (a, y) (respond c f b x)) where
-  heard : ◌≡◌ {A = Said} (a, y) (respond c f b' x)
-  heard = said ∙ ap (λ (b : Lent). respond c f b x) same
-
+-- a call of `families`, told
+module _ (b : Lent) (f : Family) {a : Answer} {y : Bytes} (c : Call) (x : Bytes) (said : ◌≡◌ {A = Said} (a, y) (respond c f b x)) where
   -- a call that leaves bytes
-  pub telling : {r code : ℕ} → code ≡ code_of a → r ≡ plain code → ◌≡◌ {A = Coded} (r, y) (told (respond c f b' x))
-  telling = telling_left heard
+  pub telling : {r code : ℕ} → code ≡ code_of a → r ≡ plain code → ◌≡◌ {A = Coded} (r, y) (told (respond c f b x))
+  telling = telling_left said
 
-  pub answering : a ≡ (respond c f b' x).0
-  answering = ap (λ (s : Said). s.0) heard
+  pub answering : a ≡ (respond c f b x).0
+  answering = ap (λ (s : Said). s.0) said
 
 -- a number, or a refusal, is told as what it answers
 module _ (v : ℕ) where
@@ -73,16 +70,15 @@ module _ (v : ℕ) where
   told_long (Err q) = ap (λ (r : ℕ). (r, v)) (refusal_told q)
 
 -- a jump
-pub telling_jump : {b b' : Lent} → b ≡ b' → (f : Family) {a : Answer} {y : Bytes} (d : ℤ) (x : Bytes) → ◌≡◌ {A = Said} (a, y) (jump f b d x)
-    → {r code : ℕ} → code ≡ code_of a → r ≡ plain code → ◌≡◌ {A = Coded} (r, y) (told (jump f b' d x))
-telling_jump same f d x said = telling_left (said ∙ ap (λ (b : Lent). jump f b d x) same)
+pub telling_jump : (b : Lent) (f : Family) {a : Answer} {y : Bytes} (d : ℤ) (x : Bytes) → ◌≡◌ {A = Said} (a, y) (jump f b d x)
+    → {r code : ℕ} → code ≡ code_of a → r ≡ plain code → ◌≡◌ {A = Coded} (r, y) (told (jump f b d x))
+telling_jump b f d x said = telling_left said
 
 -- a step of a walk
-pub telling_step : {b b' : Lent} → b ≡ b' → (f : Family) {a : Answer} {left : Kept} (way : Way) (size : ℕ) (w : Kept) → ◌≡◌ {A = Outcome} (a, left) (step_kept way f b size w)
-    → {r code : ℕ} → code ≡ code_of a → r ≡ plain code → ◌≡◌ {A = CodedStep} (r, left) (told_step (step_kept way f b' size w))
-telling_step same f way size w said = telling_left (said ∙ ap {B = Outcome} (λ (b : Lent). step_kept way f b size w) same)
+pub telling_step : (b : Lent) (f : Family) {a : Answer} {left : Kept} (way : Way) (size : ℕ) (w : Kept) → ◌≡◌ {A = Outcome} (a, left) (step_kept way f b size w)
+    → {r code : ℕ} → code ≡ code_of a → r ≡ plain code → ◌≡◌ {A = CodedStep} (r, left) (told_step (step_kept way f b size w))
+telling_step b f way size w said = telling_left said
 
 -- a check: what is told is told of the answer that it gave
-pub telling_check : {b b' : Lent} → b ≡ b' → (f : Family) (m : ℕ) (s : Bytes) (v : ℕ) (a : Checked) → Says f b m s a → ToldCheck f b' m s v (check_told a v)
-telling_check same f m s v a says =
-    record { answer = a; says = subst (λ (b : Lent). Says f b m s a) same says; told = refl }
+pub telling_check : (b : Lent) (f : Family) (m : ℕ) (s : Bytes) (v : ℕ) (a : Checked) → Says f b m s a → ToldCheck f b m s v (check_told a v)
+telling_check b f m s v a says = record { answer = a; says = says; told = refl }

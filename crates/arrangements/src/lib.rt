@@ -16,14 +16,6 @@ use checker::CheckError;
 use families::{Family, Lists, Refusal, codes};
 use walk::Way;
 
-// The lists as `families` takes them. A later list is one more place.
-fn by_value<'a>(lists: &Lists<'a>) -> Lists<'a>
-    ensures { lent (map (λ x. x.now) result) ≡ lent (map (λ x. x.now) lists.now) }
-{
-    let counts = lists[0];
-    [counts]
-}
-
 // The code that a caller is told.
 #[tactic(auto, unfolding(crate::specs::Told::plain))]
 fn plain(code: u8) -> u32
@@ -51,55 +43,55 @@ fn tell(answer: Result<u64, Refusal>, value: &mut u64) -> u32
 pub fn arrangement_object_length(f: Family, lists: &Lists, value: &mut u64) -> u32
     ensures { ◌≡◌ {A = Valued} (result, value.new) (valued (measured f (lent (map (λ x. x.now) lists.now))) value.old) }
 {
-    tell(families::object_length(f, by_value(lists)), value)
+    tell(families::object_length(f, *lists), value)
 }
 
 pub fn arrangement_count(f: Family, lists: &Lists, value: &mut u64) -> u32
     ensures { ◌≡◌ {A = Valued} (result, value.new) (valued (respond COUNT f (lent (map (λ x. x.now) lists.now)) []).0 value.old) }
 {
-    tell(families::count(f, by_value(lists)), value)
+    tell(families::count(f, *lists), value)
 }
 
 pub fn arrangement_first(f: Family, lists: &Lists, object: &mut [u8]) -> u32
     ensures { ◌≡◌ {A = Coded} (result, object.new) (told (respond FIRST f (lent (map (λ x. x.now) lists.now)) object.old)) }
 {
-    plain(codes::written(families::first(f, by_value(lists), object)))
+    plain(codes::written(families::first(f, *lists, object)))
 }
 
 pub fn arrangement_last(f: Family, lists: &Lists, object: &mut [u8]) -> u32
     ensures { ◌≡◌ {A = Coded} (result, object.new) (told (respond LAST f (lent (map (λ x. x.now) lists.now)) object.old)) }
 {
-    plain(codes::written(families::last(f, by_value(lists), object)))
+    plain(codes::written(families::last(f, *lists, object)))
 }
 
 pub fn arrangement_next(f: Family, lists: &Lists, object: &mut [u8]) -> u32
     ensures { ◌≡◌ {A = Coded} (result, object.new) (told (respond NEXT f (lent (map (λ x. x.now) lists.now)) object.old)) }
 {
-    plain(codes::stepped(families::next(f, by_value(lists), object)))
+    plain(codes::stepped(families::next(f, *lists, object)))
 }
 
 pub fn arrangement_previous(f: Family, lists: &Lists, object: &mut [u8]) -> u32
     ensures { ◌≡◌ {A = Coded} (result, object.new) (told (respond PREVIOUS f (lent (map (λ x. x.now) lists.now)) object.old)) }
 {
-    plain(codes::stepped(families::previous(f, by_value(lists), object)))
+    plain(codes::stepped(families::previous(f, *lists, object)))
 }
 
 pub fn arrangement_rank(f: Family, lists: &Lists, object: &[u8], value: &mut u64) -> u32
     ensures { ◌≡◌ {A = Valued} (result, value.new) (valued (respond RANK f (lent (map (λ x. x.now) lists.now)) object.now).0 value.old) }
 {
-    tell(families::rank(f, by_value(lists), object), value)
+    tell(families::rank(f, *lists, object), value)
 }
 
 pub fn arrangement_unrank(rank: u64, f: Family, lists: &Lists, object: &mut [u8]) -> u32
     ensures { ◌≡◌ {A = Coded} (result, object.new) (told (respond (UNRANK rank) f (lent (map (λ x. x.now) lists.now)) object.old)) }
 {
-    plain(codes::written(families::unrank(rank, f, by_value(lists), object)))
+    plain(codes::written(families::unrank(rank, f, *lists, object)))
 }
 
 pub fn arrangement_jump(f: Family, lists: &Lists, d: i64, object: &mut [u8]) -> u32
     ensures { ◌≡◌ {A = Coded} (result, object.new) (told (jump_of f (lent (map (λ x. x.now) lists.now)) d object.old)) }
 {
-    plain(jump::code(jump::jump(f, by_value(lists), d, object)))
+    plain(jump::code(jump::jump(f, *lists, d, object)))
 }
 
 // A check leaves the place open where several are wrong, and so does its contract: what is told is told of some answer that a check may give.
@@ -112,7 +104,7 @@ pub fn arrangement_check(
 ) -> u32
     ensures { ToldCheck f (lent (map (λ x. x.now) lists.now)) entries bytes.now place.old (result, place.new) }
 {
-    match checker::check(f, by_value(lists), entries, bytes) {
+    match checker::check(f, *lists, entries, bytes) {
         Ok(()) => 0,
         Err(CheckError::Wrong(wrong)) => {
             *place = wrong;
@@ -128,7 +120,7 @@ fn walk_step(way: Way, f: Family, lists: &Lists, object: &mut [u8], number: &mut
     ensures { ◌≡◌ {A = CodedStep} (result, kept object.new number.new) (told_step (step_kept way f (lent (map (λ x. x.now) lists.now)) (length object.old) (kept object.old number.old))) }
 {
     let before = *number;
-    let after = walk::step_lent(way, before, f, by_value(lists), object);
+    let after = walk::step_lent(way, before, f, *lists, object);
     *number = after.number;
     plain(codes::stepped(after.answer))
 }

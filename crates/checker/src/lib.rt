@@ -72,8 +72,8 @@ fn compare<'a>(
     Some(entries)
 }
 
-#[tactic(auto, using(crate::proofs::Answering::no_product, crate::proofs::Answering::accepted, crate::proofs::Answering::wrong))]
 // From the first object on: question 12, and then the entries.
+#[tactic(auto, using(crate::proofs::Answering::no_product, crate::proofs::Answering::accepted, crate::proofs::Answering::wrong))]
 fn check_from<'a>(
     f: Family,
     lists: Lists<'a>,
@@ -93,8 +93,8 @@ fn check_from<'a>(
     }
 }
 
-#[tactic(auto, using(crate::proofs::Answering::no_first, families::proofs::Going::starts))]
 // With a buffer of an object's length, into which FIRST writes; what FIRST is refused by then is question 4.
+#[tactic(auto, using(crate::proofs::Answering::no_first, families::proofs::Going::starts))]
 fn check_in<'a>(
     f: Family,
     lists: Lists<'a>,
@@ -124,8 +124,8 @@ fn check_long<'a>(
     check_in(f, lists, entries, bytes, &mut space[..long as usize])
 }
 
-#[tactic(auto, using(crate::proofs::Answering::no_length))]
 // A check of so many entries, which lie in the bytes one behind the other: accepted where they are the family's listing.
+#[tactic(auto, using(crate::proofs::Answering::no_length))]
 pub fn check<'a>(f: Family, lists: Lists<'a>, entries: u64, bytes: &[u8]) -> Result<(), CheckError>
     ensures { Says f (lent (map (λ x. x.now) lists.entry)) entries bytes.now result }
 {

@@ -15,7 +15,7 @@ ghost use Rattle.jump.specs.Inner.Goals.{goal_as};
 
 use families::{Family, Lists, Refusal};
 
-// What a jump answers that isn't refused.
+// What a jump answers that isn't refused. No Step of the listings: a jump writes its object as UNRANK does, which has another code.
 #[derive(Clone, Copy, Debug, PartialEq, Eq)]
 pub enum Jumped {
     Written,
@@ -34,8 +34,8 @@ fn aim(rank: u64, d: i64) -> Option<u64>
     }
 }
 
-#[tactic(auto, using(crate::proofs::Landing::off, crate::proofs::Landing::ended, crate::proofs::Landing::landed))]
 // From an object whose rank RANK has told. UNRANK puts the one question that is left: is the new rank below the count?
+#[tactic(auto, using(crate::proofs::Landing::off, crate::proofs::Landing::ended, crate::proofs::Landing::landed))]
 fn jump_from<'a>(rank: u64, f: Family, lists: Lists<'a>, d: i64, object: &mut [u8]) -> Jumped
     requires object_value { refusal RANK f (lent (map (λ x. x.now) lists)) (length object.old) (is_object f (lent (map (λ x. x.now) lists)) object.old) ≡ none }
     requires object_value_2 { rank_of f (lent (map (λ x. x.now) lists)) object.old ≡ rank }
@@ -50,8 +50,8 @@ fn jump_from<'a>(rank: u64, f: Family, lists: Lists<'a>, d: i64, object: &mut [u
     }
 }
 
-#[tactic(auto, using(crate::proofs::Landing::refused_so, families::proofs::Answered::rank_told))]
 // A jump: writes the object d places on or back, or answers END and changes nothing.
+#[tactic(auto, using(crate::proofs::Landing::refused_so, families::proofs::Answered::rank_told))]
 pub fn jump<'a>(f: Family, lists: Lists<'a>, d: i64, object: &mut [u8]) -> Result<Jumped, Refusal>
     ensures { ◌≡◌ {A = Said} (jumped_as result, object.new) (jump_of f (lent (map (λ x. x.now) lists.entry)) d object.old) }
 {
@@ -59,8 +59,8 @@ pub fn jump<'a>(f: Family, lists: Lists<'a>, d: i64, object: &mut [u8]) -> Resul
     Ok(jump_from(rank, f, lists, d, object))
 }
 
-#[tactic(auto, unfolding(families::specs::Codes::code_of))]
 // The code of a jump's answer, as `families` codes those of its calls.
+#[tactic(auto, unfolding(families::specs::Codes::code_of))]
 pub fn code(j: Result<Jumped, Refusal>) -> u8
     ensures { result ≡ code_of (jumped_as j) }
 {

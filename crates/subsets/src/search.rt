@@ -6,7 +6,8 @@ ghost use Rattle.subsets.specs.Inner.Searches.{Tight, Low};
 
 use binomials::coefficient;
 
-// The number behind place i, or the end behind the last.
+// The number behind place i, or the end behind the last. Partitions of a number have the same line, and it is not in `listings`: here an edit changes it, which
+// makes a wrong NEXT of subsets alone.
 fn behind(object: &[u8], i: usize, end: u64) -> u64
     requires { i < length object.now }
     ensures { result ≡ get_or object.now (i + 1) end }

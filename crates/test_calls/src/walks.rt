@@ -124,6 +124,7 @@ pub fn walk<'a>(rt: &impl Print, letter: u8, case: Case<'a>, object: &mut [u8]) 
     let mut sum = 0;
     let mut met = 0;
     let mut heard = hear(call_of(route.start, 0), case, object);
+    // No `for`: how many were met when the walk ends is told.
     while met < route.limit && is_put(heard) {
         sum = with_object(sum, object);
         meet(rt, letter, met, case, object)?;

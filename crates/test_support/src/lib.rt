@@ -61,6 +61,7 @@ fn read_full<R: io::Read>(input: &mut R, out: &mut [u8]) -> io::Result<usize>
     ensures err { OnErr result (length out.new ≡ length out.old) }
 {
     let mut done = 0;
+    // No `for`: the place goes on by as much as a read gave, and a read may end all.
     while done < out.len() {
         let more = input.read(&mut out[done..])?;
         if more == 0 {

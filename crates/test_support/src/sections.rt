@@ -30,11 +30,6 @@ impl<'a> Numbers<'a> {
         matches!(self.rest, [] | [b'/', ..])
     }
 
-    // Whether nothing is left, not even a stroke.
-    pub fn is_empty(&self) -> bool {
-        self.rest.is_empty()
-    }
-
     // Passes over a minus that stands here, and answers whether one did.
     pub fn skip_minus(&mut self) -> bool {
         if let [b'-', rest @ ..] = self.rest {

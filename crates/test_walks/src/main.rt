@@ -130,19 +130,6 @@ fn gone<'a, 'b>(
     Ok(after)
 }
 
-// Reads the steps from here on, as far as there is room, and answers how many.
-fn ways(steps: &mut Numbers, on: &mut [bool]) -> usize
-    ensures { result ≤ length on.new }
-{
-    for (i, way) in on.iter_mut().enumerate() {
-        if steps.is_empty() {
-            return i;
-        }
-        *way = steps.number() == 1;
-    }
-    on.len()
-}
-
 fn one_leg<'a>(rt: &impl Print, walk: Walk, first: Lists<'a>, leg: &[u8]) -> io::Result<Walk> {
     let mut counts = [0u8; LONGEST_OBJECT];
     let lent = Numbers::of(leg).list(&mut counts);
@@ -151,7 +138,7 @@ fn one_leg<'a>(rt: &impl Print, walk: Walk, first: Lists<'a>, leg: &[u8]) -> io:
     let mut answers = [UNWRITTEN; MOST];
     let room = within(steps.number(), &answers);
     let mut on = [false; MOST];
-    let many = ways(&mut steps, &mut on);
+    let many = steps.fill(&mut on, |step| step == 1);
     gone(rt, walk, first, lists, &on[..many], &mut answers[..room])
 }
 

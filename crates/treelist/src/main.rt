@@ -21,6 +21,7 @@ fn read_input(rt: &impl Input, buf: &mut [u8]) -> io::Result<usize>
 {
     let mut input = rt.reader();
     let mut done = 0;
+    // No `for`: the place goes on by as much as a read gave, and a read may end all.
     while done < buf.len() {
         let more = input.read(&mut buf[done..])?;
         if more == 0 {
@@ -40,6 +41,7 @@ enum Output {
 
 fn write_text(rt: &impl Print, text: &[u8]) -> io::Result<Output> {
     let mut done = 0;
+    // No `for`, and no `write_all`: the place goes on by as much as a write took, and one that took nothing is told apart.
     while done < text.len() {
         let more = rt.write_some(&text[done..])?;
         if more == 0 {

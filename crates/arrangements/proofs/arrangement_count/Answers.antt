@@ -8,4 +8,4 @@ use Rattle.arrangements.proofs.arrangement_count.Goals as goal
 pub returns : goal.returns
 returns c =
     let v = c.args.value.now in
-    c.tell.ensures ∙ told_counted v c.count.result ∙ ap (λ (a : Answer). valued a v) (answering c.by_value.ensures _ COUNT _ c.count.ensures)
+    c.tell.ensures ∙ told_counted v c.count.result ∙ ap (λ (a : Answer). valued a v) (answering _ _ COUNT _ c.count.ensures)

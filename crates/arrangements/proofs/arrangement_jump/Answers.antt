@@ -5,4 +5,4 @@ use Rattle.arrangements.proofs.Telling.{telling_jump}
 use Rattle.arrangements.proofs.arrangement_jump.Goals as goal
 
 pub returns : goal.returns
-returns c = telling_jump c.by_value.ensures _ _ _ (rw (to_z-of_z w64 c.args.d c.ranges.d) at c.jump.ensures) c.code.ensures c.plain.ensures
+returns c = telling_jump _ _ _ _ (rw (to_z-of_z w64 c.args.d c.ranges.d) at c.jump.ensures) c.code.ensures c.plain.ensures

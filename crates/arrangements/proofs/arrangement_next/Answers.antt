@@ -4,4 +4,4 @@ use Rattle.arrangements.proofs.Telling.{telling}
 use Rattle.arrangements.proofs.arrangement_next.Goals as goal
 
 pub returns : goal.returns
-returns c = telling c.by_value.ensures _ NEXT _ c.next.ensures c.stepped.ensures c.plain.ensures
+returns c = telling _ _ NEXT _ c.next.ensures c.stepped.ensures c.plain.ensures

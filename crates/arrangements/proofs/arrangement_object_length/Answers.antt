@@ -1,8 +1,6 @@
 -- The code of what `families::object_length` answers, and the length where it has one.
 use mathlib.Core.Path.{◌∙◌, ap}
 use Rattle.listings.specs.Calls.{Answer}
-use Rattle.families.specs.Table.{Lent}
-use Rattle.families.specs.Calls.{measured}
 use Rattle.arrangements.specs.Told.{valued}
 use Rattle.arrangements.proofs.Telling.{told_long}
 use Rattle.arrangements.proofs.arrangement_object_length.Goals as goal
@@ -11,4 +9,4 @@ pub returns : goal.returns
 returns c =
     let v = c.args.value.now in
     c.tell.ensures ∙ told_long v c.object_length.result
-    ∙ ap (λ (a : Answer). valued a v) (c.object_length.ensures ∙ ap (λ (b : Lent). measured c.args.f b) c.by_value.ensures)
+    ∙ ap (λ (a : Answer). valued a v) c.object_length.ensures

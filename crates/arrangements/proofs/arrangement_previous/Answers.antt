@@ -4,4 +4,4 @@ use Rattle.arrangements.proofs.Telling.{telling}
 use Rattle.arrangements.proofs.arrangement_previous.Goals as goal
 
 pub returns : goal.returns
-returns c = telling c.by_value.ensures _ PREVIOUS _ c.previous.ensures c.stepped.ensures c.plain.ensures
+returns c = telling _ _ PREVIOUS _ c.previous.ensures c.stepped.ensures c.plain.ensures

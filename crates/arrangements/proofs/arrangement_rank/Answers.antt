@@ -8,4 +8,4 @@ use Rattle.arrangements.proofs.arrangement_rank.Goals as goal
 pub returns : goal.returns
 returns c =
     let v = c.args.value.now in
-    c.tell.ensures ∙ told_ranked v c.rank.result ∙ ap (λ (a : Answer). valued a v) (answering c.by_value.ensures _ RANK _ c.rank.ensures)
+    c.tell.ensures ∙ told_ranked v c.rank.result ∙ ap (λ (a : Answer). valued a v) (answering _ _ RANK _ c.rank.ensures)

@@ -4,4 +4,4 @@ use Rattle.arrangements.proofs.Telling.{telling}
 use Rattle.arrangements.proofs.arrangement_unrank.Goals as goal
 
 pub returns : goal.returns
-returns c = telling c.by_value.ensures _ (UNRANK _) _ c.unrank.ensures c.written.ensures c.plain.ensures
+returns c = telling _ _ (UNRANK _) _ c.unrank.ensures c.written.ensures c.plain.ensures

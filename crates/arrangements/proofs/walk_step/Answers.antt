@@ -3,4 +3,4 @@ use Rattle.arrangements.proofs.Telling.{telling_step}
 use Rattle.arrangements.proofs.walk_step.Goals as goal
 
 pub returns : goal.returns
-returns c = telling_step c.by_value.ensures _ _ _ _ c.step_lent-after.ensures c.stepped.ensures c.plain.ensures
+returns c = telling_step _ _ _ _ _ c.step_lent-after.ensures c.stepped.ensures c.plain.ensures
