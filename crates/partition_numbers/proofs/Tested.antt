@@ -21,12 +21,12 @@ spot e j = j / 2 * (83 - j) + e
 abbrev pub number : ℕ → ℕ
 number at = get_or WORDS (at % 256) 0 / 2 ^ (21 * (at / 256)) % 2097152
 
--- what is stored, as `stored` requires it
+-- what is stored: a `Place`, as `stored` requires it
 abbrev pub Stored : ℕ → ℕ → Type 0
-Stored e j = (j % 2 ≡ 0) × ((j ≤ e + 1) × ((e + j ≤ places + 1) × (e ≤ (places + 1) * j)))
+Stored e j = ((j % 2 ≡ 0) × ((e + j ≤ places + 1) × (e ≤ (places + 1) * j))) × (j ≤ e + 1)
 
 is_stored : ℕ → ℕ → Bool
-is_stored e j = eqb (j % 2) 0 && (leb j (e + 1) && (leb (e + j) (places + 1) && leb e ((places + 1) * j)))
+is_stored e j = eqb (j % 2) 0 && (leb (e + j) (places + 1) && (leb e ((places + 1) * j) && leb j (e + 1)))
 
 abbrev pick : Bool → Bool → Bool → Bool
 pick true a b = a
@@ -46,7 +46,7 @@ tested = refl
 
 is_stored_lem : (e j : ℕ) → Stored e j → is_stored e j ≡ true
 unfolding is_stored
-is_stored_lem e j s = rw (eq-eqb _ _ s.0, le-leb _ _ s.1.0, le-leb _ _ s.1.1.0, le-leb _ _ s.1.1.1)
+is_stored_lem e j s = rw (eq-eqb _ _ s.0.0, le-leb _ _ s.0.1.0, le-leb _ _ s.0.1.1, le-leb _ _ s.1)
 
 pub record InPlace (e j : ℕ) : Type 0 where
   pub from : 161 ≤ spot e j

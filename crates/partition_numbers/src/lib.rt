@@ -14,34 +14,44 @@ use words::WORDS;
 // As many bits as a stored number has in its word.
 const BITS: usize = 21;
 
-// The even column, at most e + 1, that has the number at e of the column j. It is 0 only where e is 0, which the last of the bounds says.
-fn narrowed(e: u64, j: u64) -> u64
-    requires { (j % 2 ≡ 0) × ((0 < j) × (e + j ≤ places + 1)) }
-    ensures place { (result % 2 ≡ 0) × ((result ≤ e + 1) × ((e + result ≤ places + 1) × (e ≤ (places + 1) * result))) }
-    ensures number { partitions_of (e + result) result ≡ partitions_of (e + j) j }
-{
-    j.min(e + e % 2)
+// Where a number of an even column is. The column is 0 only where e is 0, which the last of the bounds says.
+#[derive(Clone, Copy)]
+struct Place {
+    e: u64,
+    column: u64,
+    ghost in_table: { (column % 2 ≡ 0) × ((e + column ≤ places + 1) × (e ≤ (places + 1) * column)) },
 }
 
-// The number at e of an even column, at most e + 1. Column 2 is worked out; the others stand one after the other, and a word has the numbers of three
-// places, as many apart as there are words.
-fn stored(e: u64, j: u64) -> u64
-    requires { (j % 2 ≡ 0) × ((j ≤ e + 1) × ((e + j ≤ places + 1) × (e ≤ (places + 1) * j))) }
-    ensures { result ≡ partitions_of (e + j) j }
-{
-    if j < 4 {
-        return e / 2 + 1;
+impl Place {
+    // Where the same number is in a column that is at most e + 1.
+    fn narrowed(self) -> Self
+        ensures place { (result.e ≡ self.e) × (result.column ≤ self.e + 1) }
+        ensures number { partitions_of (result.e + result.column) result.column ≡ partitions_of (self.e + self.column) self.column }
+    {
+        Place {
+            e: self.e,
+            column: self.column.min(self.e + self.e % 2),
+        }
     }
-    let at = (j / 2 * (83 - j) + e - 161) as usize;
-    (WORDS[at % WORDS.len()] >> (BITS * (at / WORDS.len()))) % (1 << BITS)
-}
 
-// The number at e of an even column.
-fn column(e: u64, j: u64) -> u64
-    requires { (j % 2 ≡ 0) × ((0 < j) × (e + j ≤ places + 1)) }
-    ensures { result ≡ partitions_of (e + j) j }
-{
-    stored(e, narrowed(e, j))
+    // The number where the column is at most e + 1. Column 2 is worked out; the others stand one after the other, and a word has the numbers of three
+    // places, as many apart as there are words.
+    fn stored(self) -> u64
+        requires { self.column ≤ self.e + 1 }
+        ensures { result ≡ partitions_of (self.e + self.column) self.column }
+    {
+        if self.column < 4 {
+            return self.e / 2 + 1;
+        }
+        let at = (self.column / 2 * (83 - self.column) + self.e - 161) as usize;
+        (WORDS[at % WORDS.len()] >> (BITS * (at / WORDS.len()))) % (1 << BITS)
+    }
+
+    fn number(self) -> u64
+        ensures { result ≡ partitions_of (self.e + self.column) self.column }
+    {
+        self.narrowed().stored()
+    }
 }
 
 // The count of the partitions of n into exactly k parts.
@@ -54,16 +64,17 @@ fn partitions(n: u64, k: u64) -> u64
     }
     let e = n - k;
     if k % 2 == 1 {
-        let v = column(e, k + 1);
+        let v = Place { e, column: k + 1 }.number();
         if e < k + 1 {
             return v;
         }
-        return v - column(e - (k + 1), k + 1);
+        let e = e - (k + 1);
+        return v - Place { e, column: k + 1 }.number();
     }
     if k == 0 {
         return u64::from(n == 0);
     }
-    column(e, k)
+    Place { e, column: k }.number()
 }
 
 // The same with every part at least the floor: floor - 1 is taken off each part, so one number is read.

@@ -11,13 +11,13 @@ pub returns-then-n-k : goal.returns-then-n-k
 returns-then-n-k c = sym (partitions_none c.args.n c.args.k c.if-n-k.true)
 
 pub returns-then-e-k : goal.returns-then-e-k
-returns-then-e-k c = c.column-v.ensures ∙ one_read c.args.n c.args.k (omega arith) c.if-e-k.true
+returns-then-e-k c = c.number-v.ensures ∙ one_read c.args.n c.args.k (omega arith) c.if-e-k.true
 
 pub overflow_sub-result : goal.overflow_sub-result
-overflow_sub-result c = omega (arith, c.column.ensures, c.column-v.ensures, two_reads c.args.n c.args.k (omega arith) (omega arith))
+overflow_sub-result c = omega (arith, c.number.ensures, c.number-v.ensures, two_reads c.args.n c.args.k (omega arith) (omega arith))
 
 pub returns-then-k-eq1 : goal.returns-then-k-eq1
-returns-then-k-eq1 c = omega (arith, c.column.ensures, c.column-v.ensures, two_reads c.args.n c.args.k (omega arith) (omega arith))
+returns-then-k-eq1 c = omega (arith, c.number.ensures, c.number-v.ensures, two_reads c.args.n c.args.k (omega arith) (omega arith))
 
 -- only 0 is a sum of no parts
 no_parts : (n : ℕ) → bool_byte (eqb n 0) ≡ partitions_of n 0
