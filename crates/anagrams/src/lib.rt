@@ -1,6 +1,6 @@
 // Kind 2: anagrams, the words with letter i (from 1) as often as counts[i - 1] says, over lent byte slices. Called by `families`, which
-// shows what each function requires: the counts are the bytes that C lends, so no type of ours can carry what is known of them. Nothing here
-// counts the words: the ranks are in `anagram_ranks`.
+// shows what each function requires: the counts are lent by C as they are, and a struct round them would be made at each call for one clause.
+// Nothing here counts the words: the ranks are in `anagram_ranks`.
 #![tactic(auto)]
 
 ghost use Rattle.std.specs.Prelude.{◌≡◌, true, List, ℕ, ◌≤◌, length};

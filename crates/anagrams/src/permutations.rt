@@ -7,7 +7,7 @@ ghost use Rattle.anagrams.specs.Permutations.{ones, is_permutation, permutations
 
 use basics::LONGEST_OBJECT;
 
-// The counts of every letter: the first n are those of the permutations of n.
+// The counts of every letter: the first n are those of the permutations of n. An array and no Vec: nothing in the library takes memory.
 pub fn all_ones() -> [u8; LONGEST_OBJECT]
     ensures { (longest_object ≡ length result) × ((n : ℕ) → n ≤ longest_object → take n result ≡ ones n) }
 {

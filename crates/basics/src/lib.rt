@@ -27,6 +27,7 @@ pub fn sum(bytes: &[u8]) -> u64
 }
 
 // The sum where it is at most the limit, and one more than the limit where it isn't: it stops at the first byte that leads past it.
+// No Option: the clause, the smaller of the total and limit + 1, is what the counts and the questions are proved by.
 #[tactic(auto, using(crate::proofs::Totals::total_is_sum, std::proofs::lemmas::List::Sums::sum_by_more_le, std::proofs::lemmas::Grind::common_steps))]
 pub fn sum_to_limit(limit: u64, bytes: &[u8]) -> u64
     requires { limit + 256 < 2 ^ 64 }

@@ -9,6 +9,7 @@ pub const WIDTH: usize = 4;
 pub const LARGEST: usize = 9999;
 
 // Digits to the end.
+// No `parse`: it takes a sign, and the definition goes digit by digit.
 #[tactic(auto, using(crate::proofs::FieldLaws::digit_cases), unfolding(crate::specs::Inner::Writing::value_as))]
 fn digits(part: &[u8]) -> Option<u64>
     requires { length part.now ≤ field_width }

@@ -8,6 +8,7 @@ ghost use Rattle.columns.specs.Inner.Writing.{Wrote};
 pub mod fields;
 
 // A text: the first bytes of a lent buffer, as many as are written.
+// No Vec or String: nothing in the library takes memory.
 #[derive(Drop)]
 pub struct Text<'a> {
     pub buffer: &'a mut [u8],
@@ -82,6 +83,7 @@ impl<'a> Text<'a> {
 }
 
 // A number, right-justified in the whole part: its last digit, and before it the digits that are left, or blanks.
+// By hand and not by Display: the contract is the column, byte for byte, and no memory is taken.
 #[tactic(auto, using(crate::proofs::ColumnLaws::column_cases, std::proofs::lemmas::Grind::common_steps))]
 fn fill_column(part: &mut [u8], n: u64)
     ensures { part.new ≡ column (length part.old) n }

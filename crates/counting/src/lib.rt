@@ -1,6 +1,5 @@
-// The answers about the counts of paper 01's families: each exact, or too large. They answer any arguments: those outside the limits of the
-// paper's table by a case of their own. `catalan_that_fits` and `derangement_that_fits`, for ranks, answer a plain number, and 0 where it
-// doesn't fit.
+// The answers about the counts of paper 01's families: each exact, too large, or of arguments outside the limits of the paper's table.
+// `catalan_that_fits` and `derangement_that_fits`, for ranks, answer a plain number, and 0 where it doesn't fit: their clause is what the ranks go by.
 #![tactic(auto, using(crate::proofs::Answers::fits_small, crate::proofs::Answers::fits_or, crate::proofs::Answers::fits_or_none))]
 
 ghost use Rattle.std.specs.Prelude.{◌≡◌, ◌≤◌, ◌<◌, ◌&&◌, cond, leb, MatchResult};

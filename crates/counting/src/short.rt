@@ -28,6 +28,7 @@ static FACTORIALS: [u64; 21] = [
 ];
 
 // n!, where that is below 2^64.
+// A function a table: each is one read, and its contract names its number.
 pub fn factorial(n: u64) -> Option<u64>
     ensures { SomeIff result (factorial_of n < 2 ^ 64) (factorial_of n) }
 {

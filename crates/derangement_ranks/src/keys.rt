@@ -19,6 +19,7 @@ pub struct LeftCounts {
 }
 
 // The key of a derangement, and its rank among those with that key.
+// A struct of its own beside that of set partitions: the keys are other numbers, and a type over both would be no shorter.
 #[derive(Clone, Copy)]
 pub struct Place {
     pub key: u8,

@@ -1,6 +1,7 @@
 // Kind 6: Dyck words with n of each, over lent byte slices. Called by `families`, which shows what each function requires. A word that isn't
 // empty is 1, its inside, 0, its rest (paper 01's row is a word, its branch a prime word, 1 inside 0). Nothing here needs counts: ranks,
 // which do, are in `dyck_ranks` and use the table of rows that is passed on below.
+// n and the bytes stay plain: with a struct round the lent bytes each clause would promise their length too.
 #![tactic(auto)]
 
 ghost use Rattle.std.specs.Prelude.{◌≡◌, true, ◌*◌, ◌≤◌, length};

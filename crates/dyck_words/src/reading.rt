@@ -1,7 +1,7 @@
 // The readers of a Dyck word: "a row is branches one after another; a branch is 1, a row, 0". They call each other, and the bytes that are
 // left fall. And a table of how long each row is, so that steps and ranks need not read an inside again at each level.
 
-ghost use Rattle.std.specs.Prelude.{◌≡◌, ◌≤◌, ◌<◌, length, get_or};
+ghost use Rattle.std.specs.Prelude.{ℕ, ◌≡◌, ◌+◌, ◌≤◌, ◌<◌, length, get_or};
 ghost use Rattle.basics.specs.Limits.{longest_object};
 ghost use Rattle.dyck_words.specs.Inner.Reading.{RowRead, BranchRead, RowsFit, RowHere, RowsTold};
 
@@ -38,6 +38,7 @@ fn branch(object: &[u8], at: usize) -> Option<usize>
 }
 
 // How long the row is that starts with the byte first, in front of bytes whose rows are known, with one for their end: 1, an inside, 0, a rest.
+// 0 also where an inside ends nowhere: the table is read of words alone, and an Option would take two bytes a place.
 fn row_here(first: u8, behind: &[u8]) -> u8
     requires { RowsFit behind.now }
     ensures { RowHere first behind.now result }
@@ -56,7 +57,8 @@ fn row_here(first: u8, behind: &[u8]) -> u8
 // The table: for each place of a word that an object may be, and for its end, how long the row is that starts there. One pass from the right.
 pub fn row_lengths(object: &[u8]) -> [u8; ROWS]
     requires { length object.now ≤ longest_object }
-    ensures { RowsTold object.now result }
+    ensures told { RowsTold object.now result }
+    ensures low { (k : ℕ) → k ≤ length object.now → k + get_or result k 0 ≤ length object.now }
 {
     let mut rows = [0; ROWS];
     for at in (0..object.len()).rev() {

@@ -16,6 +16,7 @@ use crate::reading::row_lengths;
 use listings::Step;
 
 // The word that a part starts over with: going up the first, 1 0 1 0 .., going back the last, 1 .. 1 0 .. 0.
+// `up` is a truth value, here and below: a closure would bring its law into each contract.
 #[tactic(auto, using(crate::proofs::Places::alternates, crate::proofs::Places::nested))]
 pub fn start_over(up: bool, object: &mut [u8])
     ensures { (n : ℕ) → length object.old ≡ 2 * n → object.new ≡ word (start_tree up n) }

@@ -7,6 +7,7 @@ use crate::Refusal;
 use listings::Step;
 
 // The code of an answer of FIRST, LAST and UNRANK.
+// A function and no From: neither the number nor the Result is a type of this crate.
 #[tactic(auto, unfolding(crate::specs::Codes::code_of))]
 pub fn written(w: Result<(), Refusal>) -> u8
     ensures { result ≡ code_of (written_as w) }

@@ -30,6 +30,7 @@ pub fn is_object<'a>(a: Admitted<'a>, object: &[u8]) -> bool
     }
 }
 
+// Each direction keeps its arms: a closure a kind would be longer than an arm a kind. The edition goes on as the family's number, which the definitions take.
 pub fn first<'a>(a: Admitted<'a>, object: &mut [u8])
     requires nonzero { 0 < count_of a.family.now (lists_of a) }
     requires object_len { length object.old ≡ object_length a.family.now (lists_of a) }

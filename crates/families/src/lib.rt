@@ -1,5 +1,5 @@
 // The seven calls on families of objects. No function has a `requires`: any family, any lists and buffers of any length are answered, or
-// refused by the number of the first question that they miss, and a refusal leaves every byte.
+// refused by the first question that they miss, and a refusal leaves every byte.
 #![tactic(auto)]
 
 ghost use Rattle.std.specs.Prelude.{◌≡◌, map, []};

@@ -25,6 +25,7 @@ fn most_n(kind: Kind) -> u64
 }
 
 // The largest k of a kind: 0 where it has none.
+// 0 where it has none: such a k has to be 0, so the limit is one and needs no Option.
 fn most_k(kind: Kind) -> u64
     ensures { result ≡ most_k (kind_number kind) }
 {
@@ -37,6 +38,7 @@ fn most_k(kind: Kind) -> u64
 // Questions 2, 10, 11 and 3, of a family whose kind is known.
 
 // Question 2. It is put to every call, and goes by two limits rather than by an arm a kind: so the compiler takes the questions into each call.
+// The kind stands beside its family, since nothing is admitted yet: a struct for four questions would say no more.
 #[tactic(auto, using(crate::proofs::Dispatch::kind_limits))]
 pub fn in_table<'a>(kind: Kind, f: Family, lists: Lists<'a>) -> bool
     ensures { f.kind ≡ kind_number kind → result ≡ in_table f (lent (map (λ x. x.now) lists.entry)) }

@@ -10,6 +10,7 @@ use crate::limits::FIELD_WIDTH;
 use crate::lines::number_at;
 
 // A count as it is handed on.
+// By `min`, since a larger count is not refused here but handed on as 255.
 fn at_most_255(count: u64) -> u8
     ensures { result ≡ min count 255 }
 {
@@ -29,6 +30,7 @@ fn read_counts(line: &[u8], counts: &mut [u8]) -> Option<()>
 }
 
 // How many counts the second line has.
+// 0 for other kinds, as the definition says: a first line with n 0 has no second line either, so an Option would tell nothing more.
 #[tactic(auto, unfolding(crate::specs::Grammar::counts_on))]
 fn how_many(h: Head) -> usize
     ensures upper_bound { result ≤ h.n }

@@ -1,5 +1,6 @@
 // Kind 5: partitions of the number n into k parts, each at least a floor, over lent byte slices. Called by `families`,
 // which shows what each function requires. The steps need no counts.
+// n and the bytes stay plain: with a struct round the lent bytes each clause would promise their length too.
 #![tactic(auto)]
 
 ghost use Rattle.std.specs.Prelude.{◌≡◌, true, ◌*◌, ◌≤◌, ◌<◌, length};

@@ -60,6 +60,7 @@ pub fn jump<'a>(f: Family, lists: Lists<'a>, d: i64, object: &mut [u8]) -> Resul
 }
 
 // The code of a jump's answer, as `families` codes those of its calls.
+// A function and no From: neither the number nor the Result is a type of this crate.
 #[tactic(auto, unfolding(families::specs::Codes::code_of))]
 pub fn code(j: Result<Jumped, Refusal>) -> u8
     ensures { result ≡ code_of (jumped_as j) }

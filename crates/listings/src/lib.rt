@@ -9,7 +9,7 @@ ghost use Rattle.listings.specs.Bytes.{same as same_bytes};
 use basics::LONGEST_OBJECT;
 
 // What NEXT and PREVIOUS answer: the object was replaced by its neighbour, or there is none and no byte changed.
-// An enum of its own, and no Option of nothing: the scope names this form.
+// An enum of its own, and no Option of nothing: END is an answer, which paper 01 names.
 #[derive(Clone, Copy, Debug, PartialEq, Eq)]
 pub enum Step {
     Moved,
@@ -37,6 +37,7 @@ pub fn same(x: &[u8], y: &[u8]) -> bool
 }
 
 // The bytes again, in an array with room for any object.
+// An array and no Vec: nothing in the library takes memory.
 pub fn copied(bytes: &[u8]) -> [u8; LONGEST_OBJECT]
     requires { length bytes.now ≤ longest_object }
     ensures { (longest_object ≡ length result) × (take (length bytes.now) result ≡ bytes.now) }

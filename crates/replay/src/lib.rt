@@ -29,6 +29,7 @@ fn known(calls: &[u8]) -> bool
 }
 
 // One call, and its answer's code. What is not named is FIRST, as in `call_of`; past `known` that is 1 alone.
+// Calls stay bytes, which the record speaks of: an enum would be read from them once more.
 fn one_call<'a>(call: u8, rank: u64, f: Family, lists: Lists<'a>, object: &mut [u8]) -> u8
     ensures { ◌≡◌ {A = Coded} (result, object.new) (coded (respond (call_of call rank) f (lent (map (λ x. x.now) lists.entry)) object.old)) }
 {
@@ -42,6 +43,7 @@ fn one_call<'a>(call: u8, rank: u64, f: Family, lists: Lists<'a>, object: &mut [
 }
 
 // The bytes after a call, at their place in the trail.
+// A place and no chunks: an object may be empty.
 fn keep(trail: &mut [u8], at: usize, object: &[u8])
     requires { at + length object.now ≤ length trail.old }
     ensures { take (at + length object.now) trail.new ≡ take at trail.old ++ object.now }

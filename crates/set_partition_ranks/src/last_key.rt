@@ -5,6 +5,7 @@ ghost use Rattle.set_partitions.specs.Inner.Keys.{earlier_by, Placed};
 use set_partitions::Edition;
 
 // The key of a partition, and its rank among those with that key.
+// A struct of its own beside that of derangements: the keys are other numbers, and a type over both would be no shorter.
 #[derive(Clone, Copy)]
 pub struct Place {
     pub key: u64,

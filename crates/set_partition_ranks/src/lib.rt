@@ -72,6 +72,7 @@ fn rank_of_many(edition: Edition, size: Size, keys: &[u8; LONGEST_OBJECT]) -> u6
 }
 
 // How many partitions come before it, by its keys.
+// The edition stays a number, as in the calls of `set_partitions`.
 pub fn rank(edition: u64, k: u64, object: &[u8]) -> u64
     requires object_len_bound { length object.now ≤ places }
     requires object_value { is_set_partition (length object.now) k object.now ≡ true }

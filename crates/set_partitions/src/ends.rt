@@ -11,6 +11,7 @@ use crate::edition::Edition;
 use listings::fill_up;
 
 // An end of the listing in the order of an edition: that of the latest partition, going up, or of the earliest.
+// `up` is a truth value: a closure would bring its law into each contract.
 #[derive(Clone, Copy)]
 pub struct ListingEnd {
     pub edition: Edition,

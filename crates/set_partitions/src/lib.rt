@@ -1,5 +1,6 @@
 // Kind 4: partitions of n models into k blocks, over lent byte slices, in the order of either edition: a number that isn't 2 is read as 1. Called by
 // `families`, which shows what each function requires. Nothing here needs counts.
+// n and the bytes stay plain: with a struct round the lent bytes each clause would promise their length too.
 #![tactic(auto)]
 
 ghost use Rattle.std.specs.Prelude.{◌≡◌, true, ◌≤◌, length};
@@ -40,6 +41,7 @@ pub fn is_object(n: u64, k: u64, object: &[u8]) -> bool
 }
 
 // The earliest.
+// The edition stays a number, here and in the other calls: any number is one, and an enum in its place would ask more of callers.
 pub fn first(edition: u64, k: u64, object: &mut [u8])
     requires object_len_bound { length object.old ≤ places }
     requires k_in_bounds { (k ≤ length object.old) × (k ≡ 0 → length object.old ≡ 0) }

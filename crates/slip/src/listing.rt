@@ -21,6 +21,7 @@ use families::{Family, Lists, Refusal};
 use listings::Step;
 
 // "REFUSED and the number in 4 columns".
+// A number and no Refusal: 9 is the program's alone, which no call answers.
 #[tactic(auto, using(columns::proofs::Writes::then), unfolding(crate::specs::Text::refused_text))]
 pub fn put_refused(text: &mut Text, q: u64)
     requires { text.old.len + refused_width ≤ length text.old.buffer.now }
@@ -141,6 +142,7 @@ fn put_counted<'a>(text: &mut Text, n: u64, start: u8, f: Family, lists: Lists<'
 }
 
 // MANY for a count that doesn't fit, and any other refusal by its number.
+// By the refusal's number, since what is required and ensured goes by it.
 fn put_uncounted<'a>(text: &mut Text, refusal: Refusal, start: u8, f: Family, lists: Lists<'a>)
     requires largest_in_bounds { text.old.len + largest ≤ length text.old.buffer.now }
     requires lists_value { number_of refusal ≡ 5 → allowed f (lent (map (λ x. x.now) lists)) ≡ true }

@@ -40,6 +40,7 @@ pub fn stirling_fits(n: u64, k: u64) -> bool
 
 // Row d + 1 out of row d, the rows standing `stride` apart: behind it, or in its place where they stand 0 apart. To what stands on the left comes j times
 // what stands above.
+// w and stride stay numbers beside the slice: so one proof serves the band and the single row.
 fn next_row(t: &mut [u64], w: usize, stride: usize, d: usize)
     requires apart { (stride ≡ 0) ⊎ (w ≤ stride) }
     requires room { d * stride + stride + w ≤ length t.old }

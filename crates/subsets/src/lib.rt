@@ -1,4 +1,5 @@
 // Kind 1: subsets of k out of 1 to n, over lent byte slices. Called by `families`, which shows what each function requires.
+// n and the bytes stay plain: with a struct round the lent bytes each clause would promise their length too.
 #![tactic(auto)]
 
 ghost use Rattle.std.specs.Prelude.{◌≡◌, true, ◌≤◌, ◌<◌, ◌^◌, length};

@@ -37,6 +37,7 @@ pub struct Top {
     pub below: u64,
 }
 
+// The top for a rank, from n down.
 #[tactic(auto, using(crate::proofs::Ranks::fewer_numbers))]
 pub fn largest_top(rank: u64, n: u64, k: u64) -> Top
     requires n_le_places { (n ≤ places) × (choose n k < 2 ^ 64) }

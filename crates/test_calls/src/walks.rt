@@ -12,6 +12,7 @@ const TO_THE_END: u64 = 5000;
 const CLOSED: u64 = 300;
 
 // The letters of the calls by which a walk begins and goes on, and how many objects it meets at most.
+// Letters stay letters: the files have them, and what is printed goes by them.
 #[derive(Clone, Copy)]
 struct Route {
     start: u8,

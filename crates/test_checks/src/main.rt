@@ -47,6 +47,7 @@ fn told(rt: &impl Print, answer: Result<(), CheckError>) -> io::Result<()> {
 }
 
 // Writes the bytes to the room, from that place on, as far as there is room, and answers where they end.
+// A place beside the room: three parts are put one behind the other.
 fn put(room: &mut [u8], start: usize, bytes: &[u8]) -> usize
     requires { start ≤ length room.old }
     ensures { IsPrefixLen result room.new }

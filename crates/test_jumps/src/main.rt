@@ -53,6 +53,7 @@ fn heading(rt: &impl Print, offset: u64) -> io::Result<()> {
 }
 
 // Jumps, and prints the answer by its code, where that isn't 20, written, and the bytes that are there then. Answers whether it was written.
+// By the code, and not by the answer: so the codes are tested too.
 fn jumped<'a>(
     rt: &impl Print,
     offset: u64,

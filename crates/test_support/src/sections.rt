@@ -40,6 +40,7 @@ impl<'a> Numbers<'a> {
     }
 
     // The number that begins here, the largest where it is too large; none, which is 0, where the section ends.
+    // 0 for none, since a case leaves out numbers that are 0. No parse: what is too large is the largest, and other letters end a word.
     pub fn number(&mut self) -> u64 {
         let rest = self.rest;
         let mut value: u64 = 0;

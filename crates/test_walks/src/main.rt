@@ -68,6 +68,7 @@ fn kept(rt: &impl Print, walk: Walk) -> io::Result<()> {
 }
 
 // A step one way.
+// Truth values, as `run` takes them; next and previous are called, so that both are tested.
 fn stepped<'a>(walk: Walk, lists: Lists<'a>, on: bool) -> Stride {
     if on {
         walk.next(lists)

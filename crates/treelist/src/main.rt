@@ -33,6 +33,7 @@ fn read_input(rt: &impl Input, buf: &mut [u8]) -> io::Result<usize>
 }
 
 // All was written; or a write took nothing, of which the system says no more.
+// By hand, and no error: what is printed of a write that took nothing is "cut short".
 #[derive(Clone, Copy)]
 enum Output {
     Whole,

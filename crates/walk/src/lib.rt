@@ -21,6 +21,7 @@ use families::{Call, Family, Lists, Refusal, codes};
 use listings::Step;
 
 // The way a step goes: as NEXT or as PREVIOUS.
+// A way and no closure: a closure would bring its law into each contract, and the definitions go by the way.
 #[derive(Clone, Copy, Debug, PartialEq, Eq)]
 pub enum Way {
     Forth,
@@ -29,6 +30,7 @@ pub enum Way {
 
 // The bytes kept (the first len of the array), their family and the number kept. The array stands first, so that a copy of the walk and a
 // copy of its array are made of the same words.
+// An array and a length: a walk is a value without a heap, and the contracts speak of the bytes behind the length.
 #[derive(Clone, Copy)]
 pub struct Walk {
     pub bytes: [u8; LONGEST_OBJECT],
@@ -59,6 +61,7 @@ pub struct Numbered {
 }
 
 // A step on, or one back.
+// Truth values come from `run`, whose clause takes a list of them.
 #[tactic(auto, unfolding(crate::specs::Walks::way_of))]
 fn way_of(on: bool) -> Way
     ensures { result ≡ way_of on }
