@@ -31,6 +31,7 @@ def table(name, title, numbers):
 with open(f"{crate}/src/factorials.rt", "w", encoding="utf-8") as f:
     f.write(f"""// The factorials of 0 to {LAST} by their odd parts and their factors 2, and the last columns that fit; written by tools/factorials.py. A static lies in
 // memory that is only read, where a const would be written out on the stack at each use.
+// Three lists and no list of structs: with that a coefficient took 16 instructions for 15, and this file was twice as long.
 ghost use Rattle.std.specs.Prelude.{{◌≡◌, ◌-◌, ◌≤◌, slice_index}};
 ghost use Rattle.basics.specs.Limits.{{places}};
 

@@ -1,5 +1,6 @@
 // The factorials of 0 to 80 by their odd parts and their factors 2, and the last columns that fit; written by tools/factorials.py. A static lies in
 // memory that is only read, where a const would be written out on the stack at each use.
+// Three lists and no list of structs: with that a coefficient took 16 instructions for 15, and this file was twice as long.
 ghost use Rattle.std.specs.Prelude.{◌≡◌, ◌-◌, ◌≤◌, slice_index};
 ghost use Rattle.basics.specs.Limits.{places};
 
