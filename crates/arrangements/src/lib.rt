@@ -17,6 +17,7 @@ use families::{Family, Lists, Refusal, codes};
 use walk::Way;
 
 // The code that a caller is told.
+// By numbers: these are the codes of the C header.
 #[tactic(auto, unfolding(crate::specs::Told::plain))]
 fn plain(code: u8) -> u32
     ensures { result ≡ plainly code }

@@ -38,6 +38,7 @@ fn within(n: u64, limit: u64) -> Result<(), CountError>
 }
 
 // Kind 1, what COUNT answers: subsets of k out of n, a number of paper 01's constant table or worked out from it.
+// A function a count, here and below: its clause names its number.
 pub fn subset_count(n: u64, k: u64) -> Count
     ensures { result ≡ cond (leb n places && leb k places) (fits (choose n k)) (Err Outside) }
 {

@@ -25,7 +25,8 @@ fn place_of(number: u8, object: &[u8]) -> usize
     requires { (i : ℕ) × (i < length object.now) × (get_or object.now i 0 ≡ number) }
     ensures { (result < length object.now) × (get_or object.now result 0 ≡ number) }
 {
-    // The number is there, so nothing tests for the end: this takes three instructions a byte, `position` or a `for` five, and a step up to half as many more.
+    // The number is there, so nothing tests for the end: this takes three instructions a byte, `position` or a `for` five, and a step up to half as many more,
+    // where 5 percent is the bar.
     let mut i = 0;
     while object[i] != number {
         i += 1;

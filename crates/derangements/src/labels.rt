@@ -12,7 +12,7 @@ pub fn lowered(c: u8, label: u8) -> u8
 }
 
 // From c on, labels move up.
-// Ranks of permutations raise letters too, by a definition of their own: neither crate builds on the other.
+// Ranks of permutations raise letters too, by a definition of their own, which keeps its meaning: one function for both would be no shorter.
 #[tactic(auto, unfolding(crate::specs::Cycles::raised))]
 pub fn raised(c: u8, label: u8) -> u8
     requires { label ≤ places }

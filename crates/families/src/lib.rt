@@ -116,6 +116,7 @@ pub fn count<'a>(f: Family, lists: Lists<'a>) -> Result<u64, Refusal>
 }
 
 // FIRST: writes the earliest object.
+// A function a call, here and below: C and the documents name each, and each has its theorem.
 #[tactic(auto, using(crate::proofs::Verdicts::admitted, crate::proofs::Passing::first_some, crate::proofs::Passing::first_long, crate::proofs::Passing::refused_at_once, crate::proofs::Responses::refused, crate::proofs::Responses::writes_first))]
 pub fn first<'a>(f: Family, lists: Lists<'a>, object: &mut [u8]) -> Result<(), Refusal>
     ensures { ◌≡◌ {A = Said} (written_as result, object.new) (respond FIRST f (lent (map (λ x. x.now) lists.entry)) object.old) }

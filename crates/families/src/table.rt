@@ -24,8 +24,7 @@ fn most_n(kind: Kind) -> u64
     }
 }
 
-// The largest k of a kind: 0 where it has none.
-// 0 where it has none: such a k has to be 0, so the limit is one and needs no Option.
+// The largest k of a kind; 0 where it has none, since such a k has to be 0: so the limit needs no Option.
 fn most_k(kind: Kind) -> u64
     ensures { result ≡ most_k (kind_number kind) }
 {

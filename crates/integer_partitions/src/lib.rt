@@ -124,7 +124,7 @@ pub fn rank(floor: u64, n: u64, object: &[u8]) -> u64
 
 // The object of a rank, from its last part on. Those that have the least part there come first: the rank is among them, or the part is larger.
 // No `for` over the places: once the rank is used up the first partition fills those left, whatever the floor is by then. A `for` with a search for
-// each part took 23 to 42 percent more instructions.
+// each part took 23 to 42 percent more instructions, where 5 percent is the bar.
 #[tactic(auto, using(crate::proofs::Counts::counts))]
 pub fn unrank(rank: u64, floor: u64, n: u64, object: &mut [u8])
     requires n_le_places { (n ≤ places) × ((0 < floor) × (length object.old ≤ places)) }

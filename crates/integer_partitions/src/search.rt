@@ -24,7 +24,8 @@ pub fn part_to_raise(object: &[u8]) -> Option<usize>
     None
 }
 
-// The part behind place i, or the end behind the last; as in `subsets`, whose edits need their own.
+// The part behind place i, or the end behind the last; the same line as in `subsets`, where an edit changes it for subsets
+// alone.
 fn behind(object: &[u8], i: usize, end: u64) -> u64
     requires { i < length object.now }
     ensures { result ≡ get_or object.now (i + 1) end }

@@ -15,7 +15,8 @@ ghost use Rattle.jump.specs.Inner.Goals.{goal_as};
 
 use families::{Family, Lists, Refusal};
 
-// What a jump answers that isn't refused. No Step of the listings: a jump writes its object as UNRANK does, which has another code.
+// What a jump answers that isn't refused. No Step of the listings: a jump writes its object as UNRANK does, which has
+// another code.
 #[derive(Clone, Copy, Debug, PartialEq, Eq)]
 pub enum Jumped {
     Written,

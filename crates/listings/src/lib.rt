@@ -17,6 +17,7 @@ pub enum Step {
 }
 
 // Writes from, from + 1, .. into all of the part.
+// No `fill`: each byte is another.
 #[tactic(auto, using(basics::proofs::Ranges::range_snoc, std::proofs::lemmas::Grind::common_steps), unfolding(basics::specs::Sums::range))]
 pub fn fill_up(part: &mut [u8], from: u8)
     requires { from + length part.old ≤ 256 }
@@ -28,6 +29,7 @@ pub fn fill_up(part: &mut [u8], from: u8)
 }
 
 // Are two slices of one length the same?
+// `==`, under the name that the definitions have.
 #[tactic(auto, using(crate::proofs::SameBytes::same_is_pointwise))]
 pub fn same(x: &[u8], y: &[u8]) -> bool
     requires { length x.now ≡ length y.now }

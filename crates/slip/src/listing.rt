@@ -33,6 +33,7 @@ pub fn put_refused(text: &mut Text, q: u64)
 }
 
 // The line MORE where objects are left, and END where none is.
+// A truth value, as the definition takes it.
 #[tactic(auto, using(columns::proofs::Writes::then), unfolding(crate::specs::Text::last_line))]
 fn put_last(text: &mut Text, more: bool)
     requires { text.old.len + last_line_width ≤ length text.old.buffer.now }

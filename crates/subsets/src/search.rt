@@ -44,7 +44,8 @@ pub fn largest_top(rank: u64, n: u64, k: u64) -> Top
     requires k_nonzero { (0 < k) × (rank < choose n k) }
     ensures { (result.top < n) × ((result.below ≡ choose result.top k) × ((choose result.top k ≤ rank) × (rank < choose (suc result.top) k))) }
 {
-    // A `for` would test at each number for an end that is never reached: two instructions more, up to 13 percent of an UNRANK.
+    // A `for` would test at each number for an end that is never reached: two instructions more, up to 13 percent of an UNRANK, where 5
+    // are the bar.
     let mut top = n;
     loop {
         top -= 1;

@@ -23,6 +23,7 @@ impl From<Step> for Heard {
 }
 
 // The call that a letter asks for; only UNRANK reads the rank.
+// By the letter: the files have it, and its case says how the answer is printed.
 pub fn call_of(letter: u8, rank: u64) -> Call {
     match letter {
         b'c' => Call::Count,

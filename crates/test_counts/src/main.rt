@@ -32,7 +32,7 @@ enum Question {
 
 impl Question {
     // The question whose name begins with the letter; only partitions have a floor.
-    // By the first letter: the file's text is the label, and a label may be empty.
+    // By the letter: the label is printed as the file has it, and any other letter asks for a Catalan number.
     fn new(letter: u8, n: u64, k: u64, floor: u64) -> Question {
         match letter {
             b'b' => Question::Binomial { n, k },

@@ -6,7 +6,7 @@ use std::rt::Files;
 use std::{env, io};
 
 // As much of a file as is read.
-// An array, cut off where a file is longer: no test takes memory that it could fail to get.
+// An array: memory is taken for the arguments alone, and a file that is longer is cut off.
 const ROOM: usize = 65536;
 
 // Every line of a text, without the newline that ends it.

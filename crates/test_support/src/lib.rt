@@ -13,6 +13,7 @@ pub use sections::{Numbers, behind, cut};
 use std::rt::Files;
 use std::{fs, io};
 
+// No `print!` of a string: the bytes need be none.
 pub fn text(rt: &impl Print, s: &[u8]) -> io::Result<()> {
     Print::write_all(rt, s)
 }

@@ -40,7 +40,8 @@ impl<'a> Numbers<'a> {
     }
 
     // The number that begins here, the largest where it is too large; none, which is 0, where the section ends.
-    // 0 for none, since a case leaves out numbers that are 0. No parse: what is too large is the largest, and other letters end a word.
+    // 0 for none, since a case leaves out numbers that are 0. No parse: what is too large is the largest, what is below '0' ends a word, and a word
+    // of letters is passed over as a number is.
     pub fn number(&mut self) -> u64 {
         let rest = self.rest;
         let mut value: u64 = 0;

@@ -15,6 +15,7 @@ const INPUT: usize = LONGEST_SLIP + 1;
 
 // Reads until the buffer is full or the input ends, and never past its end, which a terminal would ask for once more. Answers how many bytes
 // of input stand at the start of the buffer.
+// As in the tests' support, on which no program builds.
 fn read_input(rt: &impl Input, buf: &mut [u8]) -> io::Result<usize>
     ensures ok { IfOk result (λ n. n ≤ length buf.new) }
     ensures err { OnErr result (length buf.new ≡ length buf.old) }
