@@ -253,8 +253,8 @@ say("Method. `benchmarks/measure.c` calls the library (`tools/archive`) and `ben
 say("## Targets", "")
 targets()
 say("", "Why, by the profile:", "",
-    "- UNRANK of subsets calls itself on the shorter object for each place. The compiler hands the shorter slice on through memory and makes no loop of",
-    "  the calls. Where an array is lent whole, as in RANK of set partitions, it does. RANK of subsets is a loop: 7 instructions a place and a coefficient.",
+    "- RANK and UNRANK of subsets are loops: RANK takes 7 instructions a place and a coefficient, UNRANK goes down number by number. Where a recursion is left,",
+    "  as in RANK of set partitions, an array is lent whole, and the compiler makes a loop of the calls.",
     "- The plain tables are built beforehand and have every number ready. Here a coefficient is two products and a shift out of three literals, 24",
     "  instructions; UNRANK of subsets asks for one at each number that it passes. Above 26 models Stirling numbers are worked out once a call, a band of up to",
     "  525, and UNRANK works out the count besides, for question 8. A partition number is cut out of three that share 64 bits; an odd column takes two.",
