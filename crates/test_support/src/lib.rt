@@ -2,7 +2,7 @@
 // digest of bytes. A line of cases is a label, a colon, and sections with strokes between them; one blank stands between any two words.
 #![tactic(auto)]
 
-ghost use Rattle.std.specs.Prelude.{◌≡◌, ◌≤◌, length, IfOk, OnErr};
+ghost use Rattle.std.specs.Prelude.{◌≡◌, ◌≤◌, length, IfOk, OnErr, ◌+◌, ◌*◌, ◌%◌};
 ghost use Rattle.io.specs.Counts.{IsPrefixLen};
 
 mod cases;
@@ -42,12 +42,16 @@ pub fn lines(rt: &impl Print, label: &[u8], s: &[u8]) -> io::Result<()> {
 }
 
 // A line without the newline that may end it.
-pub fn without_newline(line: &[u8]) -> &[u8] {
+pub fn without_newline(line: &[u8]) -> &[u8]
+    ensures { length result.now ≤ length line.now }
+{
     line.strip_suffix(b"\n").unwrap_or(line)
 }
 
 // The digest with one number more.
-pub fn mixed(sum: u64, v: u64) -> u64 {
+pub fn mixed(sum: u64, v: u64) -> u64
+    ensures { result ≡ (sum % 1000003 * 257 + v % 1000003 + 1) % 1000003 }
+{
     (sum % 1000003 * 257 + v % 1000003 + 1) % 1000003
 }
 

@@ -1,15 +1,21 @@
 // The sections of a line, and the numbers of a section.
-ghost use Rattle.std.specs.Prelude.{◌≤◌, length};
+ghost use Rattle.std.specs.Prelude.{ℕ, ◌≡◌, ◌≤◌, ◌<◌, ◌++◌, length, get_or};
 ghost use Rattle.io.specs.Counts.{IsPrefixLen};
 
 // The part in front of a letter, and the part from the letter on: all and nothing where it doesn't stand there.
-pub fn cut(line: &[u8], letter: u8) -> (&[u8], &[u8]) {
+pub fn cut(line: &[u8], letter: u8) -> (&[u8], &[u8])
+    ensures parts { result.0.now ++ result.1.now ≡ line.now }
+    ensures front { (i : ℕ) → i < length result.0.now → get_or result.0.now i 0 ≡ letter → ⊥ }
+    ensures mark { 0 < length result.1.now → get_or result.1.now 0 0 ≡ letter }
+{
     let at = line.iter().position(|other| *other == letter);
     line.split_at(at.unwrap_or(line.len()))
 }
 
 // What stands behind a mark (a colon or a stroke) and the blank after it.
-pub fn behind(line: &[u8], mark: u8) -> &[u8] {
+pub fn behind(line: &[u8], mark: u8) -> &[u8]
+    ensures { length result.now ≤ length line.now }
+{
     let (_, marked) = cut(line, mark);
     if marked.len() < 2 { &[] } else { &marked[2..] }
 }
