@@ -255,7 +255,7 @@ targets()
 say("", "Why, by the profile:", "",
     "- RANK and UNRANK of subsets are loops: RANK takes 7 instructions a place and a coefficient, UNRANK goes down number by number. Where a recursion is left,",
     "  as in RANK of set partitions, an array is lent whole, and the compiler makes a loop of the calls.",
-    "- The plain tables are built beforehand and have every number ready. Here a coefficient is two products and a shift out of three literals, 24",
+    "- The plain tables are built beforehand and have every number ready. Here a coefficient is two products and a shift out of three lists of numbers, 15",
     "  instructions; UNRANK of subsets asks for one at each number that it passes. Above 26 models Stirling numbers are worked out once a call, a band of up to",
     "  525, and UNRANK works out the count besides, for question 8. A partition number is cut out of three that share 64 bits; an odd column takes two.",
     "- A Dyck word is read by two functions that call each other, as paper 01 asks, where the plain test is a loop.",

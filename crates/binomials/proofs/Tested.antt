@@ -34,7 +34,7 @@ judged false false made = true
 -- is c, the entry k of row n, as the code has it?
 unfoldable right : ℕ → ℕ → ℕ → Bool
 right n k c =
-    leb (taken n k) (get_or TWOS n 0) && (ltb (carries n k) 64 && judged (ltb c (2 ^ 64)) (within n k) (eqb (made_of n k) c))
+    leb (taken n k) (get_or TWOS n 0) && (ltb (get_or TWOS n 0) 256 && (ltb (carries n k) 64 && judged (ltb c (2 ^ 64)) (within n k) (eqb (made_of n k) c)))
 
 tested : tests (λ k. 1) right (suc places) 0 (row choose 0) ≡ true
 unfolding tests holds right judged within step row range choose
@@ -42,6 +42,7 @@ tested = refl
 
 pub record Made (n k : ℕ) : Type 0 where
   pub fewer : taken n k ≤ get_or TWOS n 0
+  pub small : get_or TWOS n 0 < 256
   pub few : carries n k < 64
   pub says : within n k ≡ ltb (choose n k) (2 ^ 64)
   pub made : choose n k < 2 ^ 64 → made_of n k ≡ choose n k
@@ -56,10 +57,12 @@ read : (n k : ℕ) → right n k (choose n k) ≡ true → Made n k
 unfolding right
 read n k h =
     let a = (and-eq-true_iff (leb (taken n k) (get_or TWOS n 0)) _).0 h in
-    let d = (and-eq-true_iff (ltb (carries n k) 64) _).0 a.1 in
+    let b = (and-eq-true_iff (ltb (get_or TWOS n 0) 256) _).0 a.1 in
+    let d = (and-eq-true_iff (ltb (carries n k) 64) _).0 b.1 in
     let j = judgement (ltb (choose n k) (2 ^ 64)) (within n k) (eqb (made_of n k) (choose n k)) d.1 in
     record {
       fewer = leb-true _ _ a.0;
+      small = ltb-true _ _ b.0;
       few = ltb-true _ _ d.0;
       says = j.0;
       made = λ l. eqb-true _ _ (j.1 (lt-ltb _ _ l));

@@ -12,7 +12,7 @@ ghost use Rattle.dyck_words.specs.Listing.{dyck_words};
 
 mod ranking;
 
-use dyck_words::row_lengths;
+use dyck_words::rows_by_place;
 
 // How many words come before it.
 #[tactic(auto, using(dyck_words::proofs::Theorem::short, crate::proofs::Ranks::place_tells))]
@@ -22,7 +22,7 @@ pub fn rank(n: u64, object: &[u8]) -> u64
     requires n_bound { catalan_of n < 2 ^ 64 }
     ensures { result ≡ count_before dyck_before object.now (dyck_words n) }
 {
-    let rows = row_lengths(object);
+    let rows = rows_by_place(object);
     ranking::rank_of(n, object, &rows)
 }
 

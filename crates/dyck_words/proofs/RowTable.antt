@@ -5,16 +5,16 @@ use mathlib.Core.Logic.{⊎_elim}
 use mathlib.Core.List.{[], ◌∷◌, ◌++◌, append_assoc}
 use Prim.Native.Nat.{ℕ, suc, ◌+◌, ◌-◌, ◌≤◌, ◌<◌}
 use native.Mathlib.Omega.{arith}
-use lib.Dec.{eqb}
+use lib.Dec.{eqb, leb, ltb}
 use lib.ListN.{length, get_or, set, take, drop, replicate, length-append, length-drop, length-set, length-take, length-replicate, drop_of_length-le}
 use lib.Seq.{get_or-set_same, get_or-set_other, drop-cons}
-use borrow.Author.Tests.{eqb-true, eqb-false}
-use Rattle.std.proofs.lemmas.List.{get_or-take, get_or-drop, get_or-replicate, drop-set}
+use borrow.Author.Tests.{eqb-true, eqb-false, leb-true, leb-false, ltb-true, ltb-false}
+use Rattle.std.proofs.lemmas.List.{get_or_past, get_or-take, get_or-drop, get_or-replicate, drop-set}
 use Rattle.basics.specs.Limits.{longest_object}
 use Rattle.basics.proofs.Bools.{true_or_false}
 use Rattle.listings.specs.Bytes.{Bytes}
 use Rattle.dyck_words.specs.Trees.{Tree, leaf, node, word}
-use Rattle.dyck_words.specs.Inner.Reading.{RowHere, Stops, RowsTold}
+use Rattle.dyck_words.specs.Inner.Reading.{RowHere, Stops, RowsTold, Told}
 
 -- where the bytes end the row is empty
 told_end : {rows : Bytes} → 0 < length rows → get_or rows 0 0 ≡ 0 → RowsTold [] rows
@@ -88,3 +88,49 @@ built_at {x} {rows} {p} {l} built here =
 
 pub built_more : {x rows : Bytes} {at l : ℕ} → 0 < at → Built x rows at → RowHere (get_or x (at - 1) 0) (take (length x + 1 - (at - 1 + 1)) (drop (at - 1 + 1) rows)) l → Built x (set rows (at - 1) l) (at - 1)
 built_more {x} {rows} {at} some built here = let e : at ≡ at - 1 + 1 = omega arith in built_at (rw e at built) here
+
+-- the rows of n bytes turned round, from the place to the bytes left there: those where less than `left` are left are in the table
+pub record Turned (n : ℕ) (rows table : Bytes) (left : ℕ) : Type 0 where
+  pub full : length table ≡ longest_object + 1
+  pub done : (k : ℕ) → k < left → get_or table k 0 ≡ get_or rows (n - k) 0
+  pub rest : (k : ℕ) → left ≤ k → get_or table k 0 ≡ 0
+
+pub turned_none : (n : ℕ) (rows : Bytes) → Turned n rows (replicate (longest_object + 1) 0) 0
+turned_none n rows = record {
+  full = length-replicate {A = ℕ} (longest_object + 1) 0;
+  done = λ k h. omega arith;
+  rest = λ k h. ⊎_elim
+      (λ e. get_or-replicate {A = ℕ} (longest_object + 1) k 0 0 (ltb-true k (longest_object + 1) e))
+      (λ e. get_or_past (replicate {A = ℕ} (longest_object + 1) 0) k 0 (omega (arith, length-replicate {A = ℕ} (longest_object + 1) 0, ltb-false k (longest_object + 1) e)))
+      (true_or_false (ltb k (longest_object + 1)));
+}
+
+pub turned_more : {n left : ℕ} {rows table : Bytes} → left ≤ n → n ≤ longest_object → Turned n rows table left → Turned n rows (set table left (get_or rows (n - left) 0)) (left + 1)
+turned_more {n} {left} {rows} {table} within short turned =
+    let room : left < length table = omega (arith, turned.full) in
+    record {
+      full = length-set table left (get_or rows (n - left) 0) ∙ turned.full;
+      done = λ k h. ⊎_elim
+          (λ e. rw (eqb-true k left e) (get_or-set_same table left (get_or rows (n - left) 0) 0 room))
+          (λ e. get_or-set_other table left k (get_or rows (n - left) 0) 0 (eqb-false k left e) ∙ turned.done k (omega (arith, eqb-false k left e)))
+          (true_or_false (eqb k left));
+      rest = λ k h. get_or-set_other table left k (get_or rows (n - left) 0) 0 (omega arith) ∙ turned.rest k (omega arith);
+    }
+
+pub turned_all : {x rows table : Bytes} {left : ℕ} → RowsTold x rows → ((k : ℕ) → k ≤ length x → k + get_or rows k 0 ≤ length x) → Turned (length x) rows table left
+    → left ≡ length x + 1 → Told x (length x) table
+turned_all {x} {rows} {table} told low turned end = record {
+  low = λ k. ⊎_elim
+      (λ e. let h = leb-true k (length x) e in omega (arith, turned.done k (omega arith), low (length x - k) (omega arith)))
+      (λ e. omega (arith, turned.rest k (omega (arith, leb-false k (length x) e))))
+      (true_or_false (leb k (length x)));
+  tells = λ a b t e s.
+      let whole = ap length e ∙ length-append a (word t ++ b) in
+      let back : length x - (length x - length a) ≡ length a = omega arith in
+      turned.done (length x - length a) (omega arith) ∙ ap (λ k. get_or rows k 0) back ∙ told.tells a b t e s;
+}
+
+-- the inside of a word is the row behind its first byte
+pub told-inside : (i r : Tree) {x : Bytes} {left : ℕ} {rows : Bytes} → Told x left rows → x ≡ word (node i r) → get_or rows (left - 1) 0 ≡ length (word i)
+unfolding word
+told-inside i r told e = told.tells (1 ∷ []) (0 ∷ word r) i e (λ z. omega arith)

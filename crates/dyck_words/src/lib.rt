@@ -17,7 +17,7 @@ mod reading;
 mod stepping;
 
 use listings::Step;
-pub use reading::row_lengths;
+pub use reading::{ROWS, inside_len, row_lengths, rows_by_place};
 
 // Does the slice hold a Dyck word with n of each? The reader of a row has to come to the end.
 #[tactic(auto, using(crate::proofs::Testing::wrong_length, crate::proofs::Testing::row_tells))]

@@ -3,12 +3,13 @@
 
 ghost use Rattle.std.specs.Prelude.{ℕ, ◌≡◌, ◌+◌, ◌≤◌, ◌<◌, length, get_or};
 ghost use Rattle.basics.specs.Limits.{longest_object};
-ghost use Rattle.dyck_words.specs.Inner.Reading.{RowRead, BranchRead, RowsFit, RowHere, RowsTold};
+ghost use Rattle.dyck_words.specs.Trees.{Tree, word, node};
+ghost use Rattle.dyck_words.specs.Inner.Reading.{RowRead, BranchRead, RowsFit, RowHere, RowsTold, Told};
 
 use basics::LONGEST_OBJECT;
 
 // As many rows as the longest word has: one for each of its bytes, and one for its end.
-const ROWS: usize = LONGEST_OBJECT + 1;
+pub const ROWS: usize = LONGEST_OBJECT + 1;
 
 // Reads branches from a place on, until no 1 stands there, and answers where it came to; or None where no row stands there.
 #[cycle(branch_row)]
@@ -55,7 +56,7 @@ fn row_here(first: u8, behind: &[u8]) -> u8
 }
 
 // The table: for each place of a word that an object may be, and for its end, how long the row is that starts there. One pass from the right.
-pub fn row_lengths(object: &[u8]) -> [u8; ROWS]
+pub fn rows_by_place(object: &[u8]) -> [u8; ROWS]
     requires { length object.now ≤ longest_object }
     ensures told { RowsTold object.now result }
     ensures low { (k : ℕ) → k ≤ length object.now → k + get_or result k 0 ≤ length object.now }
@@ -65,4 +66,26 @@ pub fn row_lengths(object: &[u8]) -> [u8; ROWS]
         rows[at] = row_here(object[at], &rows[at + 1..=object.len()]);
     }
     rows
+}
+
+// The same table by how many bytes are left where a row starts. For callers: steps and ranks go by place.
+pub fn row_lengths(object: &[u8]) -> [u8; ROWS]
+    requires { length object.now ≤ longest_object }
+    ensures { Told object.now (length object.now) result }
+{
+    let by_place = rows_by_place(object);
+    let mut rows = [0; ROWS];
+    for left in 0..=object.len() {
+        rows[left] = by_place[object.len() - left];
+    }
+    rows
+}
+
+// How long the inside is of a word that isn't empty, with left bytes from its start on: that table has it.
+pub fn inside_len(object: &[u8], rows: &[u8; ROWS], left: usize) -> usize
+    requires object_nonzero { (0 < length object.now) × (length object.now ≤ left) × (left ≤ longest_object) }
+    requires told { Told object.now left rows.now }
+    ensures { (i u : Tree) → object.now ≡ word (node i u) → result ≡ length (word i) }
+{
+    usize::from(rows[left - 1])
 }

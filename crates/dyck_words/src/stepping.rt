@@ -12,7 +12,7 @@ ghost use Rattle.dyck_words.specs.Listing.{dyck_words};
 ghost use Rattle.dyck_words.specs.Inner.Moves.{start_tree, AtEdge, AfterStep, Parts};
 ghost use Rattle.dyck_words.specs.Inner.Reading.{RowsTold};
 
-use crate::reading::row_lengths;
+use crate::reading::rows_by_place;
 use listings::Step;
 
 // The word that a part starts over with: going up the first, 1 0 1 0 .., going back the last, 1 .. 1 0 .. 0.
@@ -95,6 +95,6 @@ pub fn step_word(up: bool, n: u64, object: &mut [u8]) -> Step
     requires object_value { is_dyck_word n object.old ≡ true }
     ensures { ◌≡◌ {A = Said} (step_as result, object.new) (act (step_call up) dyck_before (dyck_words n) object.old) }
 {
-    let rows = row_lengths(object);
+    let rows = rows_by_place(object);
     step(up, object, &rows)
 }

@@ -15,3 +15,4 @@ pub mod Floors
 pub mod Editions
 pub mod Demand
 pub mod Cases
+pub mod CodeLaws

@@ -2,3 +2,4 @@
 pub mod Targets
 pub mod Landing
 pub mod JumpLaws
+pub mod CodeLaws

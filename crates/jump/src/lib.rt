@@ -2,7 +2,7 @@
 // distance and bytes are answered, and nothing overflows, not for the smallest d and not for ranks up to 2^64 - 1.
 #![tactic(auto)]
 
-ghost use Rattle.std.specs.Prelude.{◌≡◌, true, map, ◌^◌, length};
+ghost use Rattle.std.specs.Prelude.{◌≡◌, true, map, ◌^◌, length, Ok, MatchResult};
 ghost use Rattle.std.proofs.Math.Option.{none};
 ghost use Rattle.listings.specs.Calls.{RANK, Said};
 ghost use Rattle.families.specs.Table.{lent};
@@ -60,15 +60,15 @@ pub fn jump<'a>(f: Family, lists: Lists<'a>, d: i64, object: &mut [u8]) -> Resul
     Ok(jump_from(rank, f, lists, d, object))
 }
 
-// The code of a jump's answer, as `families` codes those of its calls.
+// The code of a jump's answer, as `families` codes those of its calls, and a refusal as there.
 // A function and no From: neither the number nor the Result is a type of this crate.
 #[tactic(auto, unfolding(families::specs::Codes::code_of))]
-pub fn code(j: Result<Jumped, Refusal>) -> u8
-    ensures { result ≡ code_of (jumped_as j) }
+pub fn code<Q: Into<u8>>(j: Result<Jumped, Q>) -> u8
+    ensures { MatchResult j (λ a. result ≡ code_of (jumped_as (Ok a))) (λ q. Q.converts q result) }
 {
     match j {
         Ok(Jumped::Written) => 20,
         Ok(Jumped::End) => 100,
-        Err(refusal) => u8::from(refusal),
+        Err(q) => q.into(),
     }
 }

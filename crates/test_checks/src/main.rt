@@ -79,7 +79,7 @@ fn one_list<'a>(
     told(rt, checker::check(f, lists, entries, &room[..end]))
 }
 
-// Every section.
+// Every section, the next one behind a stroke and one letter more, whatever that is.
 fn each_list<'a>(
     rt: &impl Print,
     f: Family,
@@ -88,9 +88,12 @@ fn each_list<'a>(
     sections: &[u8],
 ) -> io::Result<()> {
     let mut room = [0u8; ROOM];
-    for closed in sections.split_inclusive(|letter| *letter == b'/') {
-        let section = closed.strip_prefix(b" ").unwrap_or(closed);
+    let mut rest = sections;
+    // No `for`: the letter that is passed over may be a stroke, too.
+    while !rest.is_empty() {
+        let (section, _) = cut(rest, b'/');
         one_list(rt, f, lists, bytes, section, &mut room)?;
+        rest = behind(rest, b'/');
     }
     Ok(())
 }

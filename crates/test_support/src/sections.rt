@@ -1,5 +1,5 @@
 // The sections of a line, and the numbers of a section.
-ghost use Rattle.std.specs.Prelude.{ℕ, ◌≡◌, ◌≤◌, ◌<◌, ◌++◌, length, get_or};
+ghost use Rattle.std.specs.Prelude.{ℕ, ◌≡◌, ◌≤◌, ◌<◌, ◌-◌, ◌++◌, length, get_or};
 ghost use Rattle.io.specs.Counts.{IsPrefixLen};
 
 // The part in front of a letter, and the part from the letter on: all and nothing where it doesn't stand there.
@@ -14,7 +14,7 @@ pub fn cut(line: &[u8], letter: u8) -> (&[u8], &[u8])
 
 // What stands behind a mark (a colon or a stroke) and the blank after it.
 pub fn behind(line: &[u8], mark: u8) -> &[u8]
-    ensures { length result.now ≤ length line.now }
+    ensures { length result.now ≤ length line.now - 2 }
 {
     let (_, marked) = cut(line, mark);
     if marked.len() < 2 { &[] } else { &marked[2..] }
@@ -29,6 +29,11 @@ pub struct Numbers<'a> {
 impl<'a> Numbers<'a> {
     pub fn of(section: &'a [u8]) -> Self {
         Numbers { rest: section }
+    }
+
+    // Whether the line ends here.
+    pub fn is_empty(&self) -> bool {
+        self.rest.is_empty()
     }
 
     // Whether the section ends here.

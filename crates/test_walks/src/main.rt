@@ -131,6 +131,19 @@ fn gone<'a, 'b>(
     Ok(after)
 }
 
+// Reads the steps up to the leg's end, as far as there is room, and answers how many. A stroke among them ends no leg: it is a step back, again and again.
+fn ways(numbers: &mut Numbers<'_>, on: &mut [bool]) -> usize
+    ensures { result ≤ length on.new }
+{
+    for (i, way) in on.iter_mut().enumerate() {
+        if numbers.is_empty() {
+            return i;
+        }
+        *way = numbers.number() == 1;
+    }
+    on.len()
+}
+
 fn one_leg<'a>(rt: &impl Print, walk: Walk, first: Lists<'a>, leg: &[u8]) -> io::Result<Walk> {
     let mut counts = [0u8; LONGEST_OBJECT];
     let lent = Numbers::of(leg).list(&mut counts);
@@ -139,16 +152,19 @@ fn one_leg<'a>(rt: &impl Print, walk: Walk, first: Lists<'a>, leg: &[u8]) -> io:
     let mut answers = [UNWRITTEN; MOST];
     let room = within(steps.number(), &answers);
     let mut on = [false; MOST];
-    let many = steps.fill(&mut on, |step| step == 1);
+    let many = ways(&mut steps, &mut on);
     gone(rt, walk, first, lists, &on[..many], &mut answers[..room])
 }
 
-// Every leg, the next one behind a semicolon.
+// Every leg, the next one behind a semicolon and one letter more, whatever that is.
 fn legs<'a>(rt: &impl Print, begun: Walk, first: Lists<'a>, line: &[u8]) -> io::Result<Walk> {
     let mut walk = begun;
-    for closed in line.split_inclusive(|letter| *letter == b';') {
-        let (leg, _) = cut(closed, b';');
-        walk = one_leg(rt, walk, first, leg.strip_prefix(b" ").unwrap_or(leg))?;
+    let mut rest = line;
+    // No `for`: the letter that is passed over may be a semicolon, too.
+    while !rest.is_empty() {
+        let (leg, _) = cut(rest, b';');
+        walk = one_leg(rt, walk, first, leg)?;
+        rest = behind(rest, b';');
     }
     Ok(walk)
 }

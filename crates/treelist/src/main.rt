@@ -2,7 +2,9 @@
 // Its exit status is always 0: a read or a write that fails is said on standard error, where nothing else is said.
 #![tactic(auto)]
 
-ghost use Rattle.std.specs.Prelude.{◌≡◌, ◌≤◌, length, IfOk, OnErr};
+ghost use Rattle.std.specs.Prelude.{◌≡◌, ◌+◌, ◌≤◌, length, IfOk, OnErr};
+ghost use Rattle.grammar.specs.Sizes.{longest_slip};
+ghost use Rattle.slip.specs.Sizes.{largest};
 
 use grammar::LONGEST_SLIP;
 use slip::LARGEST;
@@ -12,6 +14,20 @@ use std::io::Read;
 
 // One byte more than the longest slip, by which a longer input is seen.
 const INPUT: usize = LONGEST_SLIP + 1;
+
+// So much room, by the definition of the longest slip: no other contract speaks of it.
+fn room_to_read() -> [u8; INPUT]
+    ensures { longest_slip + 1 ≡ length result }
+{
+    [0u8; INPUT]
+}
+
+// Room for the longest text.
+fn room_to_write() -> [u8; LARGEST]
+    ensures { largest ≡ length result }
+{
+    [0u8; LARGEST]
+}
 
 // Reads until the buffer is full or the input ends, and never past its end, which a terminal would ask for once more. Answers how many bytes
 // of input stand at the start of the buffer.
@@ -69,12 +85,12 @@ fn print(rt: &(impl Print + Eprint), text: &[u8]) {
 }
 
 fn main(rt: HostRuntime) {
-    let mut input = [0u8; INPUT];
+    let mut input = room_to_read();
     let read = match read_input(&rt, &mut input) {
         Ok(read) => read,
         Err(e) => return fail(&rt, "standard input", e),
     };
-    let mut out = [0u8; LARGEST];
+    let mut out = room_to_write();
     // So much room serves every slip: the buffer is never short.
     if let Ok(end) = slip::render(&input[..read], &mut out) {
         print(&rt, &out[..end]);

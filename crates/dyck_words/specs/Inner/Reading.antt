@@ -1,6 +1,6 @@
 -- What the readers of a word say to each other, to the steps and to the ranks. No contract of a call on a kind cites this file.
 -- Assumes nothing.
-use Rattle.std.specs.Prelude.{◌≡◌, false, ◌++◌, ℕ, ◌+◌, ◌≤◌, ◌<◌, length, get_or, drop, Option, Some, None}
+use Rattle.std.specs.Prelude.{◌≡◌, false, ◌++◌, ℕ, ◌+◌, ◌-◌, ◌≤◌, ◌<◌, length, get_or, drop, Option, Some, None}
 use Rattle.basics.specs.Limits.{longest_object}
 use Rattle.listings.specs.Bytes.{Bytes}
 use Rattle.dyck_words.specs.Objects.{balanced_from}
@@ -46,3 +46,8 @@ Stops y = get_or y 0 0 ≡ 1 → ⊥
 pub record RowsTold (x rows : Bytes) : Type 0 where
   pub long : length x < length rows
   pub tells : (a b : Bytes) (t : Tree) → x ≡ a ++ (word t ++ b) → Stops b → get_or rows (length a) 0 ≡ length (word t)
+
+-- the table has the length of each row of x, by how many bytes are left where it starts; `left` are left where x does
+pub record Told (x : Bytes) (left : ℕ) (rows : Bytes) : Type 0 where
+  pub low : (k : ℕ) → get_or rows k 0 ≤ k
+  pub tells : (a b : Bytes) (t : Tree) → x ≡ a ++ (word t ++ b) → Stops b → get_or rows (left - length a) 0 ≡ length (word t)

@@ -1,6 +1,7 @@
--- The rows from the place `at` on are in the table.
-use Rattle.dyck_words.proofs.RowTable.{Built}
+-- The rows where less than `left` bytes are left are in the table.
+use Rattle.std.proofs.Common.{length}
+use Rattle.dyck_words.proofs.RowTable.{Turned}
 use Rattle.dyck_words.proofs.reading.row_lengths.Given as goal
 
-abbrev pub invariant-loop-at : goal.invariant-loop-at
-invariant-loop-at l = Built l.object l.rows l.at
+abbrev pub invariant-loop-left : goal.invariant-loop-left
+invariant-loop-left l = Turned (length l.object) l.by_place l.rows l.left

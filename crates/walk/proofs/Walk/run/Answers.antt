@@ -8,12 +8,13 @@ use native.Mathlib.Omega.{arith}
 use lib.ListN.{length}
 use Rattle.families.specs.Table.{lent}
 use Rattle.walk.proofs.Runs.{one_more, all_taken, room_taken}
+use Rattle.families.proofs.CodeLaws.{stepped_code}
 use Rattle.walk.proofs.Walk.run.Goals as goal
 
 pub loop-i-preserved : goal.loop-i-preserved
 loop-i-preserved c =
     let went = rw c.way_of.ensures at c.step-stride.ensures in
-    rw (add-one c.loop-i.i) (one_more _ c.loop-i.walk c.args.on.now c.loop-i.answers c.loop-i.i (omega arith) (omega arith) went c.stepped.ensures ∙ c.loop-i.invariant)
+    rw (add-one c.loop-i.i) (one_more _ c.loop-i.walk c.args.on.now c.loop-i.answers c.loop-i.i (omega arith) (omega arith) went (stepped_code _ c.stepped.ensures) ∙ c.loop-i.invariant)
 
 pub returns : goal.returns
 returns c =
