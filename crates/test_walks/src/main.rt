@@ -21,7 +21,7 @@
 // `editions`: the same of kind 4 and its editions. `derangements`: kind 7.
 #![tactic(auto)]
 
-ghost use Rattle.std.specs.Prelude.{◌≤◌, length};
+ghost use Rattle.std.specs.Prelude.{◌≡◌, ◌≤◌, length, take};
 
 use basics::LONGEST_OBJECT;
 use families::{Lists, Refusal, codes};
@@ -133,7 +133,8 @@ fn gone<'a, 'b>(
 
 // Reads the steps up to the leg's end, as far as there is room, and answers how many. A stroke among them ends no leg: it is a step back, again and again.
 fn ways(numbers: &mut Numbers<'_>, on: &mut [bool]) -> usize
-    ensures { result ≤ length on.new }
+    ensures upper_bound { result ≤ length on.new }
+    ensures value { result ≡ length (take result on.new) }
 {
     for (i, way) in on.iter_mut().enumerate() {
         if numbers.is_empty() {
