@@ -31,11 +31,6 @@ impl<'a> Numbers<'a> {
         Numbers { rest: section }
     }
 
-    // Whether the line ends here.
-    pub fn is_empty(&self) -> bool {
-        self.rest.is_empty()
-    }
-
     // Whether the section ends here.
     pub fn is_done(&self) -> bool {
         matches!(self.rest, [] | [b'/', ..])

@@ -21,7 +21,7 @@
 // `editions`: the same of kind 4 and its editions. `derangements`: kind 7.
 #![tactic(auto)]
 
-ghost use Rattle.std.specs.Prelude.{◌≡◌, ◌≤◌, length, take};
+ghost use Rattle.std.specs.Prelude.{◌≤◌, length};
 
 use basics::LONGEST_OBJECT;
 use families::{Lists, Refusal, codes};
@@ -131,29 +131,19 @@ fn gone<'a, 'b>(
     Ok(after)
 }
 
-// Reads the steps up to the leg's end, as far as there is room, and answers how many. A stroke among them ends no leg: it is a step back, again and again.
-fn ways(numbers: &mut Numbers<'_>, on: &mut [bool]) -> usize
-    ensures upper_bound { result ≤ length on.new }
-    ensures value { result ≡ length (take result on.new) }
-{
-    for (i, way) in on.iter_mut().enumerate() {
-        if numbers.is_empty() {
-            return i;
-        }
-        *way = numbers.number() == 1;
-    }
-    on.len()
-}
-
 fn one_leg<'a>(rt: &impl Print, walk: Walk, first: Lists<'a>, leg: &[u8]) -> io::Result<Walk> {
     let mut counts = [0u8; LONGEST_OBJECT];
     let lent = Numbers::of(leg).list(&mut counts);
     let lists = families::only_counts(&counts[..lent]);
-    let mut steps = Numbers::of(behind(leg, b'/'));
+    let said = behind(leg, b'/');
+    let mut steps = Numbers::of(said);
     let mut answers = [UNWRITTEN; MOST];
     let room = within(steps.number(), &answers);
     let mut on = [false; MOST];
-    let many = ways(&mut steps, &mut on);
+    let before = steps.fill(&mut on, |step| step == 1);
+    // A stroke among the steps ends no leg: from there on each is one back, as far as there is room.
+    let (_, stroke) = cut(said, b'/');
+    let many = if stroke.is_empty() { before } else { MOST };
     gone(rt, walk, first, lists, &on[..many], &mut answers[..room])
 }
 
